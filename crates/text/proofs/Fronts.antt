@@ -1,0 +1,40 @@
+-- The front of some bytes before the first that stops it: one byte more, and the bytes that it takes.
+use Prim.Native.Nat.{ℕ, _+_, _≤_, _<_}
+use mathlib.Core.Path.{_≡_, refl, ap, _∙_}
+use mathlib.Core.Bool.{Bool, true, false, cond}
+use mathlib.Core.List.{List, [], _∷_}
+use lib.ListN.{length, getD, take, drop, length-drop}
+use native.Mathlib.Omega.{arith}
+use Rattle.std.proofs.shelf.Lists.{at-drop-more, at-drop-all}
+use Rattle.text.specs.Scanning.{stops, front}
+use Rattle.text.specs.declared.scan.Stop.{Stop}
+
+-- how many bytes the front has
+abbrev pub span : Stop → List ℕ → ℕ
+span s bs = length (front s bs)
+
+pub span-stops : (s : Stop) (xs : List ℕ) (i : ℕ) → i < length xs → stops s (getD xs i 0) ≡ true → span s (drop i xs) ≡ 0
+span-stops s xs i h e = at-drop-more (span s) xs i 0 h ∙ (rw e)
+
+pub span-goes : (s : Stop) (xs : List ℕ) (i : ℕ) → i < length xs → stops s (getD xs i 0) ≡ false
+    → span s (drop i xs) ≡ 1 + span s (drop (i + 1) xs)
+span-goes s xs i h e = at-drop-more (span s) xs i 0 h ∙ (rw e (omega arith))
+
+pub span-ends : (s : Stop) (xs : List ℕ) (i : ℕ) → length xs ≤ i → span s (drop i xs) ≡ 0
+span-ends s xs i h = at-drop-all (span s) xs i h
+
+pub front-taken : (s : Stop) (bs : List ℕ) → take (span s bs) bs ≡ front s bs
+front-taken s [] = refl
+front-taken s (b ∷ bs) =
+    let P : List ℕ → Type 0 = λ f. take (length f) (b ∷ bs) ≡ f in
+    elim (stops s b) as (λ t. P (cond t [] (b ∷ front s bs))) [ true ↦ refl | false ↦ ap (λ f. b ∷ f) (front-taken s bs) ]
+
+span-le : (s : Stop) (bs : List ℕ) → span s bs ≤ length bs
+span-le s [] = omega arith
+span-le s (b ∷ bs) =
+    let h = span-le s bs in
+    elim (stops s b) as (λ t. length (cond t [] (b ∷ front s bs)) ≤ length (b ∷ bs)) [ true ↦ omega arith | false ↦ omega arith ]
+
+-- a stretch ends within its bytes
+pub span-within : (s : Stop) (xs : List ℕ) (at : ℕ) → at ≤ length xs → at + span s (drop at xs) ≤ length xs
+span-within s xs at h = let k = span-le s (drop at xs) in omega (arith, length-drop at xs)
