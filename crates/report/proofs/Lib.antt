@@ -1,3 +1,4 @@
 -- The lemmas of this crate, by subject.
 mod Rows
 mod Numbers
+pub mod Quotes

@@ -3,9 +3,10 @@ ghost use mathlib.Core.Path.{_≡_};
 ghost use mathlib.Core.List.{_++_, map, _∷_, []};
 ghost use Prim.Native.Nat.{_≤_, min};
 ghost use denote.Ref.{now as held};
-ghost use lib.ListN.{length, take, drop};
+ghost use lib.Chars.{codes};
+ghost use lib.ListN.{length, take};
 ghost use Rattle.report.specs.Rows.{Prints};
-ghost use Rattle.report.specs.Printed.{visible, quoted, fault-fields, line-fields, total-fields};
+ghost use Rattle.report.specs.Printed.{visible, quoted, if-any, fault-fields, line-fields, total-fields};
 use crate::decimal::Digits;
 use crate::row::print_row;
 use text::cause::BookCause;
@@ -123,4 +124,54 @@ pub fn print_line(
         ),
         Record::Best { build } => four(out, source, number, Kind::Best.word(), build.bytes),
     }
+}
+
+/// Copies cited bytes into `out` as they are printed, and answers how many.
+fn quote(out: &mut [u8], bytes: &[u8]) -> usize
+    requires { ⌜ length (now out) ≡ 256 ⌝ }
+    ensures within { λ r. ⌜ r ≤ 256 ⌝ }
+    ensures after { λ r. ⌜ take r (now (out .exit)) ≡ quoted (now (bytes .entry)) ⌝ }
+{
+    let count = bytes.len().min(QUOTED);
+    for i in 0..count {
+        out[i] = visible_byte(bytes[i]);
+    }
+    count
+}
+
+/// Prints a fault: its text, line, number and place, and the bytes that it cites, if any.
+pub fn print_fault(out: &mut [u8], fault: &Fault, cited: &[u8]) -> Result<usize, BookCause>
+    ensures { λ r. ⌜ Prints (now (out .entry)) (now (out .exit)) (fault-fields (now (fault .entry)) (now (cited .entry))) r ⌝ }
+{
+    let mut buffer = [0; QUOTED];
+    let count = quote(&mut buffer, cited);
+    let line = Digits::of(fault.line as usize);
+    let number = Digits::of(fault.number as usize);
+    let place = Digits::of(fault.place);
+    let source = fault.source.word();
+    fault_row(
+        out,
+        source,
+        line.as_bytes(),
+        number.as_bytes(),
+        place.as_bytes(),
+        &buffer[0..count],
+    )
+}
+
+/// The row of a fault; the last field is left out where it has no bytes.
+fn fault_row<'a>(
+    out: &mut [u8],
+    source: &'a [u8],
+    line: &'a [u8],
+    number: &'a [u8],
+    place: &'a [u8],
+    cited: &'a [u8],
+) -> Result<usize, BookCause>
+    ensures { λ r. ⌜ Prints (now (out .entry)) (now (out .exit)) (codes "FAULT" ∷ now (source .entry) ∷ now (line .entry) ∷ now (number .entry) ∷ now (place .entry) ∷ if-any (now (cited .entry))) r ⌝ }
+{
+    if cited.len() == 0 {
+        return five(out, b"FAULT", source, line, number, place);
+    }
+    six(out, b"FAULT", source, line, number, place, cited)
 }

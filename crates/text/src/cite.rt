@@ -7,8 +7,8 @@ use crate::refusal::Source;
 use crate::scan::Stop;
 use crate::scan::stretch_at;
 
-/// The text that a fault is of.
-fn text_of<'a>(log: &'a [u8], sheet: &'a [u8], source: Source) -> &'a [u8]
+/// The text that a source names.
+pub fn text_of<'a>(log: &'a [u8], sheet: &'a [u8], source: Source) -> &'a [u8]
     ensures { λ r. ⌜ now r ≡ chosen source (now (log .entry)) (now (sheet .entry)) ⌝ }
 {
     match source {
