@@ -25,7 +25,7 @@ fn all_digits(bytes: &[u8]) -> bool
 }
 
 /// Whether the bytes are a decimal number: 1 to 5 digits, no leading zero unless it is 0.
-pub fn is_number(bytes: &[u8]) -> bool
+pub(crate) fn is_number(bytes: &[u8]) -> bool
     ensures { λ r. ⌜ Decides r (IsNumber (now (bytes .entry))) ⌝ }
 {
     if bytes.len() == 0 || bytes.len() > 5 {
