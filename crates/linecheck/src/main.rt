@@ -1,6 +1,9 @@
 // Checks flex.log and pairing.sheet in the current folder line by line, and prints what is read and what is refused, and where.
 ghost use Prim.Native.Nat.{_≤_};
 ghost use lib.ListN.{length};
+use records::lines::LONGEST_TEXT;
+use records::lines::Lines;
+use records::lines::check_text;
 use report::checked::print_fault;
 use report::checked::print_line;
 use report::checked::print_totals;
@@ -12,9 +15,6 @@ use text::cause::BookCause;
 use text::cite::cited;
 use text::cite::text_of;
 use text::fault::Fault;
-use text::lines::LONGEST_TEXT;
-use text::lines::Lines;
-use text::lines::check_text;
 use text::refusal::Source;
 
 /// One byte more than a text may have, so that a longer one shows.

@@ -16,10 +16,10 @@ use lib.Chars.{codes}
 use denote.Ref.{now}
 use Rattle.std.specs.Written.{decimal}
 use Rattle.text.specs.Citing.{source-word}
-use Rattle.text.specs.Records.{parts}
+use Rattle.records.specs.Records.{parts}
 use Rattle.text.specs.declared.fault.Fault.{Fault}
-use Rattle.text.specs.declared.record.Record.{Record}
-use Rattle.text.specs.declared.lines.TextLine.{TextLine}
+use Rattle.records.specs.declared.record.Record.{Record}
+use Rattle.records.specs.declared.lines.TextLine.{TextLine}
 
 abbrev pub visible : ℕ → ℕ
 visible b = cond (leb 33 b) (cond (leb b 126) b 63) 63

@@ -9,11 +9,11 @@ ghost use Rattle.report.specs.Rows.{Prints};
 ghost use Rattle.report.specs.Printed.{visible, quoted, if-any, fault-fields, line-fields, total-fields};
 use crate::decimal::Digits;
 use crate::row::print_row;
+use records::lines::TextLine;
+use records::record::Record;
 use text::cause::BookCause;
 use text::fault::Fault;
 use text::kind::Kind;
-use text::lines::TextLine;
-use text::record::Record;
 
 /// How many of the cited bytes are printed at most: as many as a line may have.
 pub const QUOTED: usize = 256;

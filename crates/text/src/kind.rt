@@ -26,7 +26,7 @@ pub enum Rule {
 }
 
 /// Whether two stretches of bytes are the same.
-pub(crate) fn same(a: &[u8], b: &[u8]) -> bool
+pub fn same(a: &[u8], b: &[u8]) -> bool
     ensures { λ r. ⌜ Decides r (now (a .entry) ≡ now (b .entry)) ⌝ }
 {
     a == b
@@ -34,7 +34,7 @@ pub(crate) fn same(a: &[u8], b: &[u8]) -> bool
 
 impl Kind {
     /// The kind that a word names, if any.
-    pub(crate) fn of(bytes: &[u8]) -> Option<Kind>
+    pub fn of(bytes: &[u8]) -> Option<Kind>
         ensures { λ r. ⌜ BySome r ((k : Kind) → now (bytes .entry) ≡ word k → ⊥) (λ k. now (bytes .entry) ≡ word k) ⌝ }
     {
         if same(bytes, b"LOG") {
@@ -83,7 +83,7 @@ impl Kind {
 
 impl Rule {
     /// The price rule that a word names, if any.
-    pub(crate) fn of(bytes: &[u8]) -> Option<Rule>
+    pub fn of(bytes: &[u8]) -> Option<Rule>
         ensures { λ r. ⌜ BySome r ((k : Rule) → now (bytes .entry) ≡ rule-word k → ⊥) (λ k. now (bytes .entry) ≡ rule-word k) ⌝ }
     {
         if same(bytes, b"bill") {

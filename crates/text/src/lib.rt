@@ -1,15 +1,9 @@
-// Names, builds, lines and records: what the box reads, what it refuses, and where.
+// Names, builds and the words of lines: what the bytes of a field are, what a refusal is, and what a fault cites.
 pub mod build;
 pub mod cause;
 pub mod cite;
 pub mod fault;
-pub mod field;
-mod form;
 pub mod kind;
-pub mod lines;
 pub mod name;
-mod number;
-pub mod record;
 pub mod refusal;
-mod scan;
-pub mod screen;
+pub mod scan;

@@ -42,7 +42,7 @@ fn scan(bytes: &[u8], at: usize, stop: Stop) -> usize
 }
 
 /// The stretch of bytes from a place on; nothing past the end.
-pub(crate) fn stretch_at<'a>(bytes: &'a [u8], at: usize, stop: Stop) -> &'a [u8]
+pub fn stretch_at<'a>(bytes: &'a [u8], at: usize, stop: Stop) -> &'a [u8]
     ensures { λ r. ⌜ now r ≡ front stop (drop at (now (bytes .entry))) ⌝ }
 {
     if at > bytes.len() {

@@ -1,12 +1,12 @@
 // A table of lines and texts with the verdict that each must get: run, compared, and counted.
+use records::lines::Lines;
+use records::lines::check_text;
+use records::screen::check_line;
+use records::screen::pairing_check_line;
 use std::io;
 use text::cite::cited;
 use text::fault::Fault;
-use text::lines::Lines;
-use text::lines::check_text;
 use text::refusal::Source;
-use text::screen::check_line;
-use text::screen::pairing_check_line;
 
 /// How many cases were run, and how many came out otherwise than the table says.
 #[derive(Drop)]

@@ -1,7 +1,7 @@
 -- Each turn takes one line off those that are left.
 use lib.ListN.{length, drop}
 use denote.Ref.{now}
-use Rattle.text.specs.Lines.{lines}
+use Rattle.records.specs.Lines.{lines}
 use Rattle.vectors.proofs.checked.Given as given
 
 abbrev pub μ-loop-line : given.MeasureT-loop-line

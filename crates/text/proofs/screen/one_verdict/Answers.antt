@@ -1,6 +1,0 @@
--- A line has one verdict.
-use Rattle.text.proofs.Verdicts.{one-verdict}
-use Rattle.text.proofs.screen.one_verdict.Needs as need
-
-pub returns : need.returns
-returns c = one-verdict
