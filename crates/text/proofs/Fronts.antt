@@ -1,13 +1,16 @@
 -- The front of some bytes before the first that stops it: one byte more, and the bytes that it takes.
 use Prim.Native.Nat.{ℕ, _+_, _≤_, _<_}
 use mathlib.Core.Path.{_≡_, refl, ap, _∙_}
-use mathlib.Core.Bool.{Bool, true, false, cond}
+use mathlib.Core.Bool.{Bool, true, false, cond, not}
 use mathlib.Core.List.{List, [], _∷_}
 use lib.ListN.{length, getD, take, drop, length-drop}
 use native.Mathlib.Omega.{arith}
 use Rattle.std.proofs.shelf.Lists.{at-drop-more, at-drop-all}
 use Rattle.text.specs.Scanning.{stops, front}
 use Rattle.text.specs.declared.scan.Stop.{Stop}
+use Rattle.text.specs.declared.scan.Stop.the-variants.{NameEnd}
+use Rattle.theory.specs.Names.{name-byte}
+use Rattle.theory.specs.Fronts.{name-run}
 
 -- how many bytes the front has
 abbrev pub span : Stop → List ℕ → ℕ
@@ -38,3 +41,10 @@ span-le s (b ∷ bs) =
 -- a stretch ends within its bytes
 pub span-within : (s : Stop) (xs : List ℕ) (at : ℕ) → at ≤ length xs → at + span s (drop at xs) ≤ length xs
 span-within s xs at h = let k = span-le s (drop at xs) in omega (arith, length-drop at xs)
+
+-- the front before the first byte that no name has is the run of name bytes
+pub front-run : (bs : List ℕ) → front NameEnd bs ≡ name-run bs
+front-run [] = refl
+front-run (b ∷ bs) =
+    elim (name-byte b) as (λ t. cond (not t) [] (b ∷ front NameEnd bs) ≡ cond t (b ∷ name-run bs) [])
+    [ true ↦ ap (λ f. b ∷ f) (front-run bs) | false ↦ refl ]

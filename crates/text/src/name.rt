@@ -5,6 +5,8 @@ ghost use Rattle.theory.specs.Fronts.{name-run};
 ghost use Rattle.theory.specs.Names.{IsName, letter, name-byte};
 ghost use lib.ListN.{drop, length};
 ghost use mathlib.Core.Path.{_≡_};
+use crate::scan::Stop;
+use crate::scan::scan;
 
 /// The most bytes that a name has.
 const LONGEST: usize = 12;
@@ -17,7 +19,7 @@ fn is_letter(b: u8) -> bool
 }
 
 /// Whether the byte may stand in a name.
-fn is_name_byte(b: u8) -> bool
+pub(crate) fn is_name_byte(b: u8) -> bool
     ensures { λ r. ⌜ r ≡ name-byte b ⌝ }
 {
     is_letter(b) || (b'0' <= b && b <= b'9') || b == b'-'
@@ -29,14 +31,7 @@ pub(crate) fn name_end(text: &[u8], at: usize) -> usize
     ensures end { λ r. ⌜ r ≡ at + length (name-run (drop at (now (text .entry)))) ⌝ }
     ensures within { λ r. ⌜ r ≤ length (now (text .entry)) ⌝ }
 {
-    let mut i = at;
-    while i < text.len() {
-        if !is_name_byte(text[i]) {
-            return i;
-        }
-        i += 1;
-    }
-    i
+    scan(text, at, Stop::NameEnd)
 }
 
 /// Whether the bytes are a lawful name.

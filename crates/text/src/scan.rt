@@ -3,6 +3,7 @@ ghost use mathlib.Core.Path.{_≡_};
 ghost use Prim.Native.Nat.{_+_, _≤_};
 ghost use lib.ListN.{length, drop};
 ghost use Rattle.text.specs.Scanning.{stops, front};
+use crate::name::is_name_byte;
 
 /// What a stretch of bytes ends before.
 #[derive(Clone, Copy)]
@@ -10,6 +11,7 @@ pub enum Stop {
     Tab,
     Feed,
     TabOrFeed,
+    NameEnd,
 }
 
 impl Stop {
@@ -21,12 +23,13 @@ impl Stop {
             Stop::Tab => b == b'\t',
             Stop::Feed => b == b'\n',
             Stop::TabOrFeed => b == b'\t' || b == b'\n',
+            Stop::NameEnd => !is_name_byte(b),
         }
     }
 }
 
 /// The place of the first byte from `at` on that stops a stretch, or the end.
-fn scan(bytes: &[u8], at: usize, stop: Stop) -> usize
+pub(crate) fn scan(bytes: &[u8], at: usize, stop: Stop) -> usize
     requires { ⌜ at ≤ length (now bytes) ⌝ }
     ensures end { λ r. ⌜ r ≡ at + length (front stop (drop at (now (bytes .entry)))) ⌝ }
     ensures within { λ r. ⌜ r ≤ length (now (bytes .entry)) ⌝ }
