@@ -9,11 +9,10 @@
 use mathlib.Core.Path.{_≡_}
 use mathlib.Core.List.{List, [], _∷_}
 use Prim.Native.Nat.{ℕ, _≤_, _<_}
-use lib.Chars.{codes}
 use Rattle.theory.specs.Names.{IsName}
 use Rattle.theory.specs.Builds.{Build, Lawful, text, depth}
 use Rattle.records.specs.Numbers.{IsNumber, value}
-use Rattle.text.specs.Kinds.{rule-word}
+use Rattle.text.specs.Kinds.{version, rule-word}
 use Rattle.text.specs.declared.kind.Kind.{Kind}
 use Rattle.text.specs.declared.kind.Kind.the-variants.{Log, Flex, End, Sheet, Cost, Stock, Pair, Best}
 use Rattle.text.specs.declared.kind.Rule.{Rule}
@@ -29,7 +28,7 @@ abbrev pub dearest : ℕ
 dearest = 10000
 
 abbrev pub Fits : Form → List ℕ → Type 0
-Fits form.Version f = f ≡ codes "1"
+Fits form.Version f = f ≡ version
 Fits form.Build f = (u : Build) × Lawful u × (text u ≡ f)
 Fits form.Name f = IsName f
 Fits form.Number f = IsNumber f

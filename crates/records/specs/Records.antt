@@ -12,12 +12,11 @@ use Prim.Native.Nat.{ℕ, _+_, _≤_}
 use mathlib.Core.Path.{_≡_}
 use mathlib.Core.List.{List, [], _∷_}
 use lib.ListN.{length, drop}
-use lib.Chars.{codes}
 use denote.Ref.{now}
 use Rattle.theory.specs.Names.{IsName}
 use Rattle.theory.specs.Builds.{IsBuild}
 use Rattle.records.specs.Numbers.{IsNumber, value}
-use Rattle.text.specs.Kinds.{word, rule-word}
+use Rattle.text.specs.Kinds.{version, word, rule-word}
 use Rattle.records.specs.Forms.{deepest, dearest, forms}
 use Rattle.records.specs.Fields.{fields, after}
 use Rattle.records.specs.Judging.{longest-line, FirstBad, FieldBreaks, Unbroken}
@@ -30,7 +29,7 @@ use Rattle.records.specs.declared.record.Record.{Record}
 use Rattle.records.specs.declared.record.Record.the-variants.{Log, Flex, End, Sheet, Cost, Stock, Pair, Best}
 
 abbrev pub parts : Record → List (List ℕ)
-parts (Log version) = word kind.Log ∷ now (version .bytes) ∷ []
+parts (Log field) = word kind.Log ∷ now (field .bytes) ∷ []
 parts (Flex left right) = word kind.Flex ∷ now (left .bytes) ∷ now (right .bytes) ∷ []
 parts (End count) = word kind.End ∷ now (count .bytes) ∷ []
 parts (Sheet named rule) = word kind.Sheet ∷ now (named .bytes) ∷ []
@@ -47,7 +46,7 @@ abbrev pub second-place : ℕ → ℕ → List ℕ → ℕ
 second-place start n first = start + n + 1 + length first + 1
 
 abbrev pub Placed : ℕ → Record → Type 0
-Placed start (Log version) = version .place ≡ first-place start 3
+Placed start (Log field) = field .place ≡ first-place start 3
 Placed start (Flex left right) = (left .place ≡ first-place start 4) × (right .place ≡ second-place start 4 (now (left .bytes)))
 Placed start (End count) = count .place ≡ first-place start 3
 Placed start (Sheet named rule) = named .place ≡ first-place start 5
@@ -63,7 +62,7 @@ abbrev pub NumberIn : Number → Type 0
 NumberIn n = IsNumber (now (n .bytes)) × (n .value ≡ value (now (n .bytes)))
 
 abbrev pub Meant : Record → Type 0
-Meant (Log version) = now (version .bytes) ≡ codes "1"
+Meant (Log field) = now (field .bytes) ≡ version
 Meant (Flex left right) = BuildIn left × BuildIn right
 Meant (End count) = NumberIn count
 Meant (Sheet named rule) = now (named .bytes) ≡ rule-word rule

@@ -6,7 +6,7 @@ use crate::number::is_number_to;
 use text::build::is_build;
 use text::build::too_deep;
 use text::kind::Rule;
-use text::kind::same;
+use text::kind::is_version;
 use text::name::is_name;
 
 /// The deepest build that a line may have, a name alone being 1.
@@ -31,7 +31,7 @@ pub(crate) fn fits(form: Form, bytes: &[u8]) -> bool
     ensures { λ r. ⌜ Decides r (Fits form (now (bytes .entry))) ⌝ }
 {
     match form {
-        Form::Version => same(bytes, b"1"),
+        Form::Version => is_version(bytes),
         Form::Build => is_build(bytes),
         Form::Name => is_name(bytes),
         Form::Number => is_number(bytes),

@@ -1,5 +1,5 @@
 -- The front of some bytes before the first that stops it: one byte more, and the bytes that it takes.
-use Prim.Native.Nat.{ℕ, _+_, _≤_, _<_}
+use Prim.Native.Nat.{ℕ, _+_, _-_, _≤_, _<_}
 use mathlib.Core.Path.{_≡_, refl, ap, _∙_}
 use mathlib.Core.Bool.{Bool, true, false, cond, not}
 use mathlib.Core.List.{List, [], _∷_}
@@ -26,11 +26,17 @@ span-goes s xs i h e = at-drop-more (span s) xs i 0 h ∙ (rw e (omega arith))
 pub span-ends : (s : Stop) (xs : List ℕ) (i : ℕ) → length xs ≤ i → span s (drop i xs) ≡ 0
 span-ends s xs i h = at-drop-all (span s) xs i h
 
-pub front-taken : (s : Stop) (bs : List ℕ) → take (span s bs) bs ≡ front s bs
+front-taken : (s : Stop) (bs : List ℕ) → take (span s bs) bs ≡ front s bs
 front-taken s [] = refl
 front-taken s (b ∷ bs) =
     let P : List ℕ → Type 0 = λ f. take (length f) (b ∷ bs) ≡ f in
     elim (stops s b) as (λ t. P (cond t [] (b ∷ front s bs))) [ true ↦ refl | false ↦ ap (λ f. b ∷ f) (front-taken s bs) ]
+
+-- the bytes up to where the stretch ends are the stretch
+pub front-to : (s : Stop) (xs : List ℕ) (at end : ℕ) → end ≡ at + span s (drop at xs) → take (end - at) (drop at xs) ≡ front s (drop at xs)
+front-to s xs at end e =
+    let n : end - at ≡ span s (drop at xs) = omega arith in
+    ap (λ k. take k (drop at xs)) n ∙ front-taken s (drop at xs)
 
 span-le : (s : Stop) (bs : List ℕ) → span s bs ≤ length bs
 span-le s [] = omega arith

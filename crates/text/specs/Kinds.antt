@@ -2,6 +2,7 @@
 --
 -- | word      | meaning                              |
 -- |-----------|--------------------------------------|
+-- | version   | the one version of logs              |
 -- | word      | the first field of a line of a kind  |
 -- | rule-word | the word that picks a price rule     |
 use mathlib.Core.List.{List}
@@ -11,6 +12,9 @@ use Rattle.text.specs.declared.kind.Kind.{Kind}
 use Rattle.text.specs.declared.kind.Kind.the-variants.{Log, Flex, End, Sheet, Cost, Stock, Pair, Best}
 use Rattle.text.specs.declared.kind.Rule.{Rule}
 use Rattle.text.specs.declared.kind.Rule.the-variants as rule
+
+abbrev pub version : List ℕ
+version = codes "1"
 
 abbrev pub word : Kind → List ℕ
 word Log = codes "LOG"

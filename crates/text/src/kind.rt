@@ -2,7 +2,7 @@
 ghost use mathlib.Core.Path.{_≡_};
 ghost use Rattle.std.specs.Options.{Cases as BySome};
 ghost use Rattle.std.specs.Orderings.{Decides};
-ghost use Rattle.text.specs.Kinds.{word, rule-word};
+ghost use Rattle.text.specs.Kinds.{version, word, rule-word};
 
 /// What a line is about; its first field is the kind's word.
 #[derive(Clone, Copy)]
@@ -26,10 +26,17 @@ pub enum Rule {
 }
 
 /// Whether two stretches of bytes are the same.
-pub fn same(a: &[u8], b: &[u8]) -> bool
+fn same(a: &[u8], b: &[u8]) -> bool
     ensures { λ r. ⌜ Decides r (now (a .entry) ≡ now (b .entry)) ⌝ }
 {
     a == b
+}
+
+/// Whether the bytes name the version of logs, which is 1.
+pub fn is_version(bytes: &[u8]) -> bool
+    ensures { λ r. ⌜ Decides r (now (bytes .entry) ≡ version) ⌝ }
+{
+    same(bytes, b"1")
 }
 
 impl Kind {

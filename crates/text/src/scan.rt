@@ -1,7 +1,7 @@
 // Scanning: the stretch of bytes from a place to the next byte that stops it.
 ghost use mathlib.Core.Path.{_≡_};
-ghost use Prim.Native.Nat.{_+_, _≤_};
-ghost use lib.ListN.{length, drop};
+ghost use Prim.Native.Nat.{_+_, _-_, _≤_};
+ghost use lib.ListN.{length, take, drop};
 ghost use Rattle.text.specs.Scanning.{stops, front};
 use crate::name::is_name_byte;
 
@@ -33,6 +33,7 @@ pub(crate) fn scan(bytes: &[u8], at: usize, stop: Stop) -> usize
     requires { ⌜ at ≤ length (now bytes) ⌝ }
     ensures end { λ r. ⌜ r ≡ at + length (front stop (drop at (now (bytes .entry)))) ⌝ }
     ensures within { λ r. ⌜ r ≤ length (now (bytes .entry)) ⌝ }
+    ensures stretch { λ r. ⌜ take (r - at) (drop at (now (bytes .entry))) ≡ front stop (drop at (now (bytes .entry))) ⌝ }
 {
     let mut i = at;
     while i < bytes.len() {

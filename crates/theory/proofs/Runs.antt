@@ -30,13 +30,6 @@ run-run (b ∷ bs) =
     elim (name-byte b) as (λ t. name-byte b ≡ t → name-run (cond t (b ∷ name-run bs) []) ≡ cond t (b ∷ name-run bs) [])
     [ true ↦ λ e. rw e (ap (λ r. b ∷ r) (run-run bs)) | false ↦ λ e. refl ] refl
 
--- the run of one byte more
-pub run-goes : (b : ℕ) (bs : List ℕ) → name-byte b ≡ true → name-run (b ∷ bs) ≡ b ∷ name-run bs
-run-goes b bs e = rw e
-
-pub run-stops : (b : ℕ) (bs : List ℕ) → name-byte b ≡ false → name-run (b ∷ bs) ≡ []
-run-stops b bs e = rw e
-
 -- name bytes alone in front of another byte are the run
 pub run-append : (x ys : List ℕ) → name-run x ≡ x → name-run ys ≡ [] → name-run (x ++ ys) ≡ x
 run-append [] ys p q = q
