@@ -1,8 +1,7 @@
 // The line check, and the one call that the screen program, which is written in C, reaches.
-ghost use Prim.Native.Nat.{_≤_};
 ghost use Rattle.std.specs.Results.{Cases};
 ghost use Rattle.records.specs.Faults.{Coded};
-ghost use Rattle.records.specs.Judging.{longest-line, Breaks, FirstBreak, Unbroken};
+ghost use Rattle.records.specs.Judging.{Breaks, FirstBreak, Unbroken};
 ghost use Rattle.records.specs.Verdicts.{OneVerdict};
 use crate::record::read_record;
 use text::refusal::Refusal;
@@ -11,7 +10,6 @@ use text::refusal::Refusal;
 pub fn check_line(line: &[u8]) -> Result<(), Refusal>
     ensures granted { λ r. ⌜ Cases r (λ _. Unbroken (Breaks 0 (now (line .entry)))) (λ _. Unit {0}) ⌝ }
     ensures refused { λ r. ⌜ Cases r (λ _. Unit {0}) (FirstBreak (Breaks 0 (now (line .entry)))) ⌝ }
-    ensures within { λ r. ⌜ Cases r (λ _. Unit {0}) (λ e. e .place ≤ longest-line) ⌝ }
 {
     match read_record(line, 0) {
         Ok(_) => Ok(()),
