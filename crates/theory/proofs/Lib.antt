@@ -5,3 +5,7 @@ pub mod Grammar
 pub mod Costs
 pub mod Closing
 pub mod Settling
+pub mod Pinned
+pub mod Deciding
+pub mod Books
+pub mod Examples

@@ -6,3 +6,7 @@ pub mod Tables
 pub mod Costs
 pub mod Steps
 pub mod Statements
+pub mod Books
+pub mod Calls
+pub mod Pinned
+pub mod Examples

@@ -1,6 +1,8 @@
 // The mathematics of builds: each function stands for a theorem, which is its contract.
 ghost use Rattle.theory.specs.Statements.{OneReading, DepthWithin, Completeness, Exactness, CheapestAt};
 ghost use Rattle.theory.specs.Steps.{Closing, Settling};
+ghost use Rattle.theory.specs.Pinned.{Pinned};
+ghost use Rattle.theory.specs.Examples.{Examples};
 
 // A text is the text of one lawful build at most.
 pub fn text_reads_one_way()
@@ -35,4 +37,14 @@ pub fn closing_steps()
 // Whatever the costs are: choosing a cheapest node that can be chosen, class by class, goes on to the end and settles all choices.
 pub fn settling_steps<C>()
     ensures { λ _. ⌜ Settling C ⌝ }
+{}
+
+// What the relations of the calls on a book say leaves nothing open: one answer, and one state after.
+pub fn calls_leave_nothing_open()
+    ensures { λ _. ⌜ Pinned ⌝ }
+{}
+
+// The worked examples of equality stand, each with its answer.
+pub fn examples_stand()
+    ensures { λ _. ⌜ Examples ⌝ }
 {}
