@@ -1,3 +1,4 @@
+-- The lemmas of this crate, by subject.
 pub mod Columns
 pub mod Relabel
 pub mod Signs
