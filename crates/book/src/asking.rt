@@ -8,7 +8,7 @@ use text::cause::BookCause;
 use text::cause::Layer;
 
 impl Table<'_> {
-    pub fn same(&self, a: NodeId, b: NodeId) -> Result<bool, Layer>
+    pub(crate) fn same(&self, a: NodeId, b: NodeId) -> Result<bool, Layer>
         requires { ⌜ Holds (now self) ⌝ }
         ensures { λ r. ⌜ Sameness (state (now (self .entry))) (a .0) (b .0) (test-answer r) (state (now (self .entry))) ⌝ }
     {
@@ -18,7 +18,7 @@ impl Table<'_> {
         Ok(self.rows[a.0].node.class == self.rows[b.0].node.class)
     }
 
-    pub fn class(&self, a: NodeId) -> Result<NodeId, Layer>
+    pub(crate) fn class(&self, a: NodeId) -> Result<NodeId, Layer>
         requires { ⌜ Holds (now self) ⌝ }
         ensures { λ r. ⌜ Classing (state (now (self .entry))) (a .0) (node-answer r) (state (now (self .entry))) ⌝ }
     {

@@ -24,7 +24,7 @@ fn relabel(rows: &mut [Row], nodes: usize, keep: u16, gone: u16)
 }
 
 // what makes the node i congruent to another
-pub fn signature(rows: &[Row], nodes: usize, i: usize) -> Signature
+pub(crate) fn signature(rows: &[Row], nodes: usize, i: usize) -> Signature
     requires fits { ⌜ nodes ≤ length (now rows) ⌝ }
     requires tidy { ⌜ Tidy (now rows) nodes ⌝ }
     requires inside { ⌜ i < nodes ⌝ }
@@ -39,14 +39,14 @@ pub fn signature(rows: &[Row], nodes: usize, i: usize) -> Signature
     }
 }
 
-pub fn agree(a: Signature, b: Signature) -> bool
+pub(crate) fn agree(a: Signature, b: Signature) -> bool
     ensures { λ r. ⌜ Decides r (Agree a b) ⌝ }
 {
     a.symbol == b.symbol && a.parts == b.parts && a.left == b.left && a.right == b.right
 }
 
 // whether two nodes have one symbol over parts of the same classes
-pub fn alike(rows: &[Row], nodes: usize, i: usize, j: usize) -> bool
+pub(crate) fn alike(rows: &[Row], nodes: usize, i: usize, j: usize) -> bool
     requires fits { ⌜ nodes ≤ length (now rows) ⌝ }
     requires tidy { ⌜ Tidy (now rows) nodes ⌝ }
     requires inside { ⌜ (i < nodes) × (j < nodes) ⌝ }
@@ -161,7 +161,7 @@ fn close(rows: &mut [Row], nodes: usize, dirty: &mut [bool])
 }
 
 // stores the equation of the nodes a and b in the row `at`, and closes the classes under it unless they hold it already
-pub fn accept(rows: &mut [Row], nodes: usize, at: usize, a: usize, b: usize)
+pub(crate) fn accept(rows: &mut [Row], nodes: usize, at: usize, a: usize, b: usize)
     requires fits { ⌜ Fits (now rows) nodes ⌝ }
     requires place { ⌜ at < length (now rows) ⌝ }
     requires tidy { ⌜ Tidy (now rows) nodes ⌝ }
@@ -183,7 +183,7 @@ pub fn accept(rows: &mut [Row], nodes: usize, at: usize, a: usize, b: usize)
 }
 
 // ends a pricing in force
-pub fn unprice(rows: &mut [Row], nodes: usize, priced: bool)
+pub(crate) fn unprice(rows: &mut [Row], nodes: usize, priced: bool)
     requires fits { ⌜ nodes ≤ length (now rows) ⌝ }
     requires unpriced { ⌜ Unpriced (now rows) nodes priced ⌝ }
     ensures { λ _. ⌜ Unchosen (now (rows .entry)) (now (rows .exit)) nodes ⌝ }

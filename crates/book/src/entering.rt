@@ -128,7 +128,7 @@ impl Table<'_> {
         find(self.rows, self.nodes, node)
     }
 
-    pub fn enter(&mut self, symbol: Symbol, parts: Parts) -> Result<NodeId, Layer>
+    pub(crate) fn enter(&mut self, symbol: Symbol, parts: Parts) -> Result<NodeId, Layer>
         requires { ⌜ Holds (now self) ⌝ }
         ensures holds { λ r. ⌜ Holds (now (self .exit)) ⌝ }
         ensures answer { λ r. ⌜ Entering (state (now (self .entry))) (asked (symbol .0) parts) (node-answer r) (state (now (self .exit))) ⌝ }

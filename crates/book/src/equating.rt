@@ -15,7 +15,7 @@ use text::cause::BookCause;
 use text::cause::Layer;
 
 impl Table<'_> {
-    pub fn equate(&mut self, a: NodeId, b: NodeId) -> Result<EquationId, Layer>
+    pub(crate) fn equate(&mut self, a: NodeId, b: NodeId) -> Result<EquationId, Layer>
         requires { ⌜ Holds (now self) ⌝ }
         ensures holds { λ r. ⌜ Holds (now (self .exit)) ⌝ }
         ensures answer { λ r. ⌜ Equating (state (now (self .entry))) (a .0) (b .0) (equation-answer r) (state (now (self .exit))) ⌝ }

@@ -32,7 +32,7 @@ fn clear_first(rows: &mut [Row], room: usize)
 }
 
 // clears the rows that a book may use
-pub fn clear(rows: &mut [Row])
+pub(crate) fn clear(rows: &mut [Row])
     ensures { λ _. ⌜ Cleared (now (rows .entry)) (now (rows .exit)) (min (length (now (rows .entry))) 1024) ⌝ }
 {
     let room = usable(rows.len());

@@ -55,7 +55,7 @@ impl Table<'_> {
         None
     }
 
-    pub fn name(&mut self, bytes: &[u8]) -> Result<Symbol, Layer>
+    pub(crate) fn name(&mut self, bytes: &[u8]) -> Result<Symbol, Layer>
         requires { ⌜ Holds (now self) ⌝ }
         ensures holds { λ r. ⌜ Holds (now (self .exit)) ⌝ }
         ensures answer { λ r. ⌜ Naming (state (now (self .entry))) (now (bytes .entry)) (symbol-answer r) (state (now (self .exit))) ⌝ }

@@ -2,7 +2,7 @@
 ghost use mathlib.Core.Path.{_≡_};
 ghost use Prim.Native.Nat.{min};
 
-pub fn usable(rows: usize) -> usize
+pub(crate) fn usable(rows: usize) -> usize
     ensures { λ r. ⌜ r ≡ min rows 1024 ⌝ }
 {
     if rows < 1024 { rows } else { 1024 }

@@ -14,7 +14,8 @@ use Rattle.price.specs.Prices.{price-row, is-for, is-free, price-of, Repriced}
 use Rattle.price.proofs.Finding.{tail}
 use Rattle.price.specs.declared.bill.PriceRow.{PriceRow}
 
-listed-at : (rs : List PriceRow) (i x : ℕ) (d : PriceRow) → i < length rs → NotBefore (is-for x) rs i → is-for x (getD rs i d) ≡ true → price-of rs x ≡ getD rs i d .price
+listed-at : (rs : List PriceRow) (i x : ℕ) (d : PriceRow) → i < length rs → NotBefore (is-for x) rs i → is-for x (getD rs i d) ≡ true
+    → price-of rs x ≡ getD rs i d .price
 listed-at [] i x d lt none here = absurd (not-suc-le-zero lt)
 listed-at (r ∷ rs) zero x d lt none here = cond-true _ _ _ here
 listed-at (r ∷ rs) (suc i) x d lt none here = cond-false _ _ _ (none 0 d (omega arith)) ∙ listed-at rs i x d (le-of-suc-le-suc lt) (tail (is-for x) r rs i none) here
@@ -30,7 +31,8 @@ unlisted (r ∷ rs) x none = cond-false _ _ _ (none 0 r (omega arith)) ∙ unlis
 abbrev Open : ℕ → PriceRow → Type 0
 Open x r = (y : ℕ) → eqb y x ≡ false → is-for y r ≡ false
 
-given : (rs : List PriceRow) (i x p : ℕ) (d : PriceRow) → i < length rs → NotBefore (is-for x) rs i → Open x (getD rs i d) → Repriced rs x p (set rs i (price-row x p))
+given : (rs : List PriceRow) (i x p : ℕ) (d : PriceRow) → i < length rs → NotBefore (is-for x) rs i → Open x (getD rs i d)
+    → Repriced rs x p (set rs i (price-row x p))
 given [] i x p d lt none free y = absurd (not-suc-le-zero lt)
 given (r ∷ rs) zero x p d lt none free y = let f = free y in grind (arith, tells)
 given (r ∷ rs) (suc i) x p d lt none free y =
@@ -39,13 +41,15 @@ given (r ∷ rs) (suc i) x p d lt none free y =
     grind (arith, tells)
 
 -- a listed symbol gets another price
-pub changed-price : (rs : List PriceRow) (i x p : ℕ) (after : List PriceRow) → FirstAt (is-for x) rs i → after ≡ set rs i (price-row x p) → Repriced rs x p after
+pub changed-price : (rs : List PriceRow) (i x p : ℕ) (after : List PriceRow) → FirstAt (is-for x) rs i → after ≡ set rs i (price-row x p)
+    → Repriced rs x p after
 changed-price rs i x p after f e =
     let d = price-row x p in
     subst (Repriced rs x p) (sym e) (given rs i x p d (f .within) (f .before) (λ y ne. let h = f .here d in grind (arith, tells)))
 
 -- an unlisted symbol gets a free row
-pub added-price : (rs : List PriceRow) (i x p : ℕ) (after : List PriceRow) → Nowhere (is-for x) rs → FirstAt is-free rs i → after ≡ set rs i (price-row x p) → Repriced rs x p after
+pub added-price : (rs : List PriceRow) (i x p : ℕ) (after : List PriceRow) → Nowhere (is-for x) rs → FirstAt is-free rs i
+    → after ≡ set rs i (price-row x p) → Repriced rs x p after
 added-price rs i x p after none f e =
     let d = price-row x p in
     let lt = f .within in

@@ -27,7 +27,8 @@ module _ {R C : Type 0} (fits : C → Type 0) (below : C → C → Bool) (alone�
   fit f (one x u) = f .fits-one r (number x) (cost u) (fit f u)
   fit f (two x u v) = f .fits-two r (number x) (cost u) (cost v) (fit f u) (fit f v)
 
-  pub costed : Fitting fits alone′ one′ two′ → Order below → Growth fits below one′ two′ → Weight fits below one′ two′ → Costed fits (rule-of below alone′ one′ two′ r number)
+  pub costed : Fitting fits alone′ one′ two′ → Order below → Growth fits below one′ two′ → Weight fits below one′ two′
+      → Costed fits (rule-of below alone′ one′ two′ r number)
   costed f o g w =
       record {
         costs = fit f;

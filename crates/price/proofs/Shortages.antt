@@ -31,7 +31,8 @@ given (r ∷ rs) zero x d lt free y = grind (arith, tells)
 given (r ∷ rs) (suc i) x d lt free y = let again = given rs i x d (le-of-suc-le-suc lt) free y in grind (arith, tells)
 
 -- an unlisted symbol gets a free row
-pub added-symbol : (rs : List StockRow) (i x : ℕ) (after : List StockRow) → FirstAt is-free rs i → after ≡ set rs i (stock-row x) → Enlisted rs x after
+pub added-symbol : (rs : List StockRow) (i x : ℕ) (after : List StockRow) → FirstAt is-free rs i → after ≡ set rs i (stock-row x)
+    → Enlisted rs x after
 added-symbol rs i x after f e = let d = stock-row x in subst (Enlisted rs x) (sym e) (given rs i x d (f .within) (f .here d))
 
 -- a listed symbol needs none

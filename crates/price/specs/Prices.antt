@@ -49,7 +49,8 @@ pub data Setting (rows : List PriceRow) (x p : ℕ) (answer : Result (Unit {0}) 
   too-dear : dearest < p → answer ≡ Err (Field Broken) → after ≡ rows → Setting rows x p answer after
   full : p ≤ dearest → Nowhere (is-for x) rows → Nowhere is-free rows → answer ≡ Err (Book ListFull) → after ≡ rows → Setting rows x p answer after
   changed : (i : ℕ) → p ≤ dearest → FirstAt (is-for x) rows i → answer ≡ Ok tt → after ≡ set rows i (price-row x p) → Setting rows x p answer after
-  added : (i : ℕ) → p ≤ dearest → Nowhere (is-for x) rows → FirstAt is-free rows i → answer ≡ Ok tt → after ≡ set rows i (price-row x p) → Setting rows x p answer after
+  added : (i : ℕ) → p ≤ dearest → Nowhere (is-for x) rows → FirstAt is-free rows i → answer ≡ Ok tt → after ≡ set rows i (price-row x p)
+      → Setting rows x p answer after
 
 abbrev pub Repriced : List PriceRow → ℕ → ℕ → List PriceRow → Type 0
 Repriced rows x p after = (y : ℕ) → price-of after y ≡ cond (eqb y x) p (price-of rows y)

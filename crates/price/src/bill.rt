@@ -48,6 +48,16 @@ fn row_for(rows: &[PriceRow], symbol: u32) -> Option<usize>
     None
 }
 
+// The price in the symbol's row, or 0.
+fn price_in(rows: &[PriceRow], symbol: u32) -> u32
+    ensures { λ r. ⌜ r ≡ price-of (now (rows .entry)) symbol ⌝ }
+{
+    match row_for(rows, symbol) {
+        Some(i) => rows[i].price,
+        None => 0,
+    }
+}
+
 // The first row that is not in use.
 fn free_row(rows: &[PriceRow]) -> Option<usize>
     ensures { λ r. ⌜ BySome r (Nowhere is-free (now (rows .entry))) (λ i. FirstAt is-free (now (rows .entry)) i) ⌝ }
@@ -88,10 +98,7 @@ impl Bill {
     pub fn price(&self, symbol: u32) -> u32
         ensures { λ r. ⌜ r ≡ price-of (now (self .entry) .rows) symbol ⌝ }
     {
-        match row_for(&self.rows, symbol) {
-            Some(i) => self.rows[i].price,
-            None => 0,
-        }
+        price_in(&self.rows, symbol)
     }
 
     // Changes the row at `i` alone.

@@ -122,7 +122,7 @@ impl Stock {
         ensures after { λ r. ⌜ Listing (now (self .entry) .rows) symbol r (now (self .exit) .rows) ⌝ }
         ensures value { λ r. ⌜ Cases r (λ _. Enlisted (now (self .entry) .rows) symbol (now (self .exit) .rows)) (λ _. now (self .exit) .rows ≡ now (self .entry) .rows) ⌝ }
     {
-        if is_listed(&self.rows, symbol) {
+        if self.has(symbol) {
             return Ok(());
         }
         if let Some(i) = free_row(&self.rows) {
@@ -137,7 +137,7 @@ impl Stock {
         ensures value { λ r. ⌜ r ≡ lacks (now (self .entry) .rows) symbol ⌝ }
         ensures small { λ r. ⌜ r ≤ 1 ⌝ }
     {
-        if is_listed(&self.rows, symbol) { 0 } else { 1 }
+        if self.has(symbol) { 0 } else { 1 }
     }
 }
 

@@ -20,10 +20,12 @@ use Rattle.queue.proofs.Sifts.{agrees, top, Places}
 as-long : {X : Type 0} (zs ys : List X) (m : ℕ) → m ≤ length zs → Shuffled (take m zs) ys → length (ys ++ drop m zs) ≡ length zs
 as-long zs ys m le s = let l = length-shuffled _ _ s in let t = length-take-le m zs le in simp (length-append, length-drop) (omega arith)
 
-pub push-room : {X : Type 0} (es ys : List X) (n m : ℕ) (e : X) → m ≡ n + 1 → n < length es → Shuffled (take m (set es n e)) ys → length (ys ++ drop m (set es n e)) ≡ length es
+pub push-room : {X : Type 0} (es ys : List X) (n m : ℕ) (e : X) → m ≡ n + 1 → n < length es → Shuffled (take m (set es n e)) ys
+    → length (ys ++ drop m (set es n e)) ≡ length es
 push-room es ys n m e is in′ s = as-long (set es n e) ys m (omega (arith, length-set es n e)) s ∙ length-set es n e
 
-pub pop-room : {X : Type 0} (es zs ys : List X) (m : ℕ) → m ≤ length zs → length zs ≡ length es → Shuffled (take m zs) ys → length (ys ++ drop m zs) ≡ length es
+pub pop-room : {X : Type 0} (es zs ys : List X) (m : ℕ) → m ≤ length zs → length zs ≡ length es → Shuffled (take m zs) ys
+    → length (ys ++ drop m zs) ≡ length es
 pop-room es zs ys m le same s = as-long zs ys m le s ∙ same
 
 module _ {C : Type 0} (below : C → C → Bool) where
@@ -36,24 +38,29 @@ module _ {C : Type 0} (below : C → C → Bool) where
       let l = length-take-le m (set es n e) (omega (arith, length-set es n e)) in
       agrees (after below) es (take m (set es n e)) 0 n k (omega arith) (λ i d a b. getD-take m (set es n e) i d (omega arith) ∙ getD-set-other es n i e d (omega arith)) (s .1)
 
-  pub push-order : (es ys rest : List (Entry C)) (n m : ℕ) (e : Entry C) → m ≡ n + 1 → n < length es → Shuffled (take m (set es n e)) ys → (Rising below (take m (set es n e)) → Heaped below (length ys) ys) → OrderedIn below n es → OrderedIn below (n + 1) (ys ++ rest)
+  pub push-order : (es ys rest : List (Entry C)) (n m : ℕ) (e : Entry C) → m ≡ n + 1 → n < length es → Shuffled (take m (set es n e)) ys
+      → (Rising below (take m (set es n e)) → Heaped below (length ys) ys) → OrderedIn below n es → OrderedIn below (n + 1) (ys ++ rest)
   push-order es ys rest n m e is in′ s sifted o =
       let l = length-take-le m (set es n e) (omega (arith, length-set es n e)) in
       rest-order ys rest (n + 1) (length-shuffled _ _ s ∙ l ∙ is) (sifted (rising es n m e is in′ o))
 
   -- what is lent to `sift_down` was heaped but for the first
-  sinking : (es zs : List (Entry C)) (n m : ℕ) → m ≡ n → n < length es → length zs ≡ length es → Places es zs 0 n → OrderedIn below (n + 1) es → Sinking below (take m zs)
+  sinking : (es zs : List (Entry C)) (n m : ℕ) → m ≡ n → n < length es → length zs ≡ length es → Places es zs 0 n
+      → OrderedIn below (n + 1) es → Sinking below (take m zs)
   sinking es zs n m is in′ long s h =
       let l = length-take-le m zs (omega arith) in
       agrees (after below) es (take m zs) 1 (n + 1) (length (take m zs)) (omega arith) (λ i d a b. getD-take m zs i d (omega arith) ∙ s .2 i d (omega arith) (omega arith)) (λ p k d lo. h .1 p k d (omega arith))
 
-  pub pop-order : (es zs ys rest : List (Entry C)) (c n m : ℕ) → c ≡ n + 1 → m ≡ n → n < length es → length zs ≡ length es → Places es zs 0 n → Shuffled (take m zs) ys → (Sinking below (take m zs) → Heaped below (length ys) ys) → OrderedIn below c es → OrderedIn below n (ys ++ rest)
+  pub pop-order : (es zs ys rest : List (Entry C)) (c n m : ℕ) → c ≡ n + 1 → m ≡ n → n < length es → length zs ≡ length es
+      → Places es zs 0 n → Shuffled (take m zs) ys → (Sinking below (take m zs) → Heaped below (length ys) ys) → OrderedIn below c es
+      → OrderedIn below n (ys ++ rest)
   pop-order es zs ys rest c n m ic im in′ long p s sifted o =
       let l = length-take-le m zs (omega arith) in
       rest-order ys rest n (length-shuffled _ _ s ∙ l ∙ im) (sifted (sinking es zs n m im in′ long p (subst (λ k. OrderedIn below k es) ic o)))
 
   -- the entry at the top goes first
-  pub top-first : Ranks (after below) → (es : List (Entry C)) (c : ℕ) (x : Entry C) → 0 < c → x ≡ getD es 0 x → OrderedIn below c es → First below x (take c es)
+  pub top-first : Ranks (after below) → (es : List (Entry C)) (c : ℕ) (x : Entry C) → 0 < c → x ≡ getD es 0 x → OrderedIn below c es
+      → First below x (take c es)
   top-first o es c x some is h =
       let l = length-take-le c es (h .0) in
       let in′ = h .0 in
@@ -61,7 +68,8 @@ module _ {C : Type 0} (below : C → C → Bool) where
       ∙ ap (after below (getD es 0 d)) (getD-take c es k d (omega arith)) ∙ top (after below) o es c d (h .1) k k (omega arith) (omega arith))
 
 module _ {C : Type 0} where
-  pub pushed : (es ys rest : List (Entry C)) (n m : ℕ) (e : Entry C) → m ≡ n + 1 → n < length es → Shuffled (take m (set es n e)) ys → Shuffled (e ∷ take n es) (take (n + 1) (ys ++ rest))
+  pub pushed : (es ys rest : List (Entry C)) (n m : ℕ) (e : Entry C) → m ≡ n + 1 → n < length es → Shuffled (take m (set es n e)) ys
+      → Shuffled (e ∷ take n es) (take (n + 1) (ys ++ rest))
   pushed es ys rest n m e is in′ s =
       let l = length-take-le m (set es n e) (omega (arith, length-set es n e)) in
       let long : length ys ≡ n + 1 = length-shuffled _ _ s ∙ l ∙ is in
@@ -77,7 +85,8 @@ take-set (x ∷ xs) (suc k) zero y = refl
 take-set {X} (x ∷ xs) (suc k) (suc i) y = ap (λ (l : List X). x ∷ l) (take-set xs k i y)
 
 module _ {X : Type 0} where
-  without : (es zs : List X) (n : ℕ) (x : X) → n < length es → zs ≡ set (set es 0 (getD es n x)) n (getD es 0 x) → swapped (take (n + 1) es) 0 x ≡ take n zs
+  without : (es zs : List X) (n : ℕ) (x : X) → n < length es → zs ≡ set (set es 0 (getD es n x)) n (getD es 0 x)
+      → swapped (take (n + 1) es) 0 x ≡ take n zs
   without es zs n x in′ is =
       let l : length (take (n + 1) es) - 1 ≡ n = omega (arith, length-take-le (n + 1) es (omega arith)) in
       ap (λ k. take k (set (take (n + 1) es) 0 (getD (take (n + 1) es) k x))) l
@@ -87,7 +96,9 @@ module _ {X : Type 0} where
       ∙ sym (ap (take n) is ∙ take-set-le n (set es 0 (getD es n x)) n (getD es 0 x) (omega arith))
 
 module _ {C : Type 0} where
-  pub popped : (es zs ys rest : List (Entry C)) (c n m : ℕ) (x : Entry C) → c ≡ n + 1 → m ≡ n → n < length es → x ≡ getD es 0 x → ((d : Entry C) → zs ≡ set (set es 0 (getD es n d)) n (getD es 0 d)) → length zs ≡ length es → Shuffled (take m zs) ys → Shuffled (take c es) (x ∷ take n (ys ++ rest))
+  pub popped : (es zs ys rest : List (Entry C)) (c n m : ℕ) (x : Entry C) → c ≡ n + 1 → m ≡ n → n < length es → x ≡ getD es 0 x
+      → ((d : Entry C) → zs ≡ set (set es 0 (getD es n d)) n (getD es 0 d)) → length zs ≡ length es → Shuffled (take m zs) ys
+      → Shuffled (take c es) (x ∷ take n (ys ++ rest))
   popped es zs ys rest c n m x ic im in′ first is same s =
       let l = length-take-le m zs (omega arith) in
       let long : length ys ≡ n = length-shuffled _ _ s ∙ l ∙ im in
@@ -98,7 +109,8 @@ module _ {C : Type 0} where
       (subst (λ v. Shuffled (x ∷ swapped (take c es) 0 x) (x ∷ v)) (sym (take-at ys rest n long)) (shuffled-cons x _ _ (subst (λ v. Shuffled v ys) (sym w) s)))
 
   -- an entry that is read field by field is the entry
-  pub read-whole : (es : List (Entry C)) (a b : Entry C) → 0 < length es → let x : Entry C = record { cost = getD es 0 a .cost; node = getD es 0 b .node } in x ≡ getD es 0 x
+  pub read-whole : (es : List (Entry C)) (a b : Entry C) → 0 < length es
+      → let x : Entry C = record { cost = getD es 0 a .cost; node = getD es 0 b .node } in x ≡ getD es 0 x
   read-whole es a b some =
       let x : Entry C = record { cost = getD es 0 a .cost; node = getD es 0 b .node } in
       let p = getD-default es 0 a x some in

@@ -35,14 +35,16 @@ module _ {X : Type 0} (lt : X → X → Bool) where
     λ k d a b f. absurd (omega arith),
   )
 
-  pub closes : (xs : List X) (j n : ℕ) → ((p : ℕ) (d : X) → p * 2 + 1 ≤ j → j ≤ p * 2 + 2 → lt (getD xs p d) (getD xs j d) ≡ false) → Up lt xs j n → Heap lt xs 0 n
+  pub closes : (xs : List X) (j n : ℕ) → ((p : ℕ) (d : X) → p * 2 + 1 ≤ j → j ≤ p * 2 + 2 → lt (getD xs p d) (getD xs j d) ≡ false)
+      → Up lt xs j n → Heap lt xs 0 n
   closes xs j n over h = λ p k d lo a b f. ⊎-elim
       (λ e. by _ _ _ _ (ap (λ m. getD xs m d) e) refl (h .1 k d (omega arith) (omega arith) f))
       (λ u. ⊎-elim
       (λ e. by _ _ _ _ refl (ap (λ m. getD xs m d) e) (over p d (omega arith) (omega arith)))
       (λ v. h .0 .0 p k d a b f u v) (cases-eq k j)) (cases-eq p j)
 
-  pub up : Ranks lt → (xs ys : List X) (j c n : ℕ) → j * 2 + 1 ≤ c → c ≤ j * 2 + 2 → c < n → Places xs ys j c → ((d : X) → lt (getD xs j d) (getD xs c d) ≡ true) → Up lt xs c n → Up lt ys j n
+  pub up : Ranks lt → (xs ys : List X) (j c n : ℕ) → j * 2 + 1 ≤ c → c ≤ j * 2 + 2 → c < n → Places xs ys j c
+      → ((d : X) → lt (getD xs j d) (getD xs c d) ≡ true) → Up lt xs c n → Up lt ys j n
   up o xs ys j c n from to in′ s t h = (
     (
       λ p k d a b f u v. ⊎-elim
@@ -82,18 +84,22 @@ module _ {X : Type 0} (lt : X → X → Bool) where
   pub only-child : Ranks lt → (xs : List X) (j c n : ℕ) → c ≡ j * 2 + 1 → n ≤ c + 1 → Largest lt xs j c n
   only-child o xs j c n e l = λ k d a b f. itself o xs c k d (omega arith)
 
-  pub left-child : Ranks lt → (xs : List X) (j c n : ℕ) → c ≡ j * 2 + 1 → ((d : X) → lt (getD xs c d) (getD xs (c + 1) d) ≡ false) → Largest lt xs j c n
+  pub left-child : Ranks lt → (xs : List X) (j c n : ℕ) → c ≡ j * 2 + 1 → ((d : X) → lt (getD xs c d) (getD xs (c + 1) d) ≡ false)
+      → Largest lt xs j c n
   left-child o xs j c n e t = λ k d a b f. ⊎-elim (itself o xs c k d) (λ u. let p : k ≡ c + 1 = omega arith in by _ _ _ _ refl (ap (λ m. getD xs m d) p) (t d)) (cases-eq k c)
 
-  pub right-child : Ranks lt → (xs : List X) (j c n : ℕ) → c ≡ j * 2 + 1 → ((d : X) → lt (getD xs c d) (getD xs (c + 1) d) ≡ true) → Largest lt xs j (c + 1) n
+  pub right-child : Ranks lt → (xs : List X) (j c n : ℕ) → c ≡ j * 2 + 1 → ((d : X) → lt (getD xs c d) (getD xs (c + 1) d) ≡ true)
+      → Largest lt xs j (c + 1) n
   right-child o xs j c n e t = λ k d a b f. ⊎-elim (itself o xs (c + 1) k d) (λ u. let p : k ≡ c = omega arith in by _ _ _ _ refl (ap (λ m. getD xs m d) p) (o .one-way _ _ (t d))) (cases-eq k (c + 1))
 
-  pub rests : Ranks lt → (xs : List X) (j c n : ℕ) → ((d : X) → lt (getD xs j d) (getD xs c d) ≡ false) → Largest lt xs j c n → Down xs j n → Heap lt xs 0 n
+  pub rests : Ranks lt → (xs : List X) (j c n : ℕ) → ((d : X) → lt (getD xs j d) (getD xs c d) ≡ false) → Largest lt xs j c n → Down xs j n
+      → Heap lt xs 0 n
   rests o xs j c n t g h = λ p k d a b e f. ⊎-elim
       (λ s. by _ _ _ _ (ap (λ m. getD xs m d) s) refl (o .chain _ _ _ (t d) (g k d (omega arith) (omega arith) f)))
       (λ u. h .0 p k d b e f u) (cases-eq p j)
 
-  pub sinks : Ranks lt → (xs ys : List X) (j c n : ℕ) → j * 2 + 1 ≤ c → c ≤ j * 2 + 2 → c < n → Places xs ys j c → ((d : X) → lt (getD xs j d) (getD xs c d) ≡ true) → Largest lt xs j c n → Down xs j n → Down ys c n
+  pub sinks : Ranks lt → (xs ys : List X) (j c n : ℕ) → j * 2 + 1 ≤ c → c ≤ j * 2 + 2 → c < n → Places xs ys j c
+      → ((d : X) → lt (getD xs j d) (getD xs c d) ≡ true) → Largest lt xs j c n → Down xs j n → Down ys c n
   sinks o xs ys j c n from to in′ s t g h = (
     λ p k d b e f u. ⊎-elim
         (λ q. ⊎-elim
@@ -112,7 +118,8 @@ module _ {X : Type 0} (lt : X → X → Bool) where
       (λ u. o .chain _ _ _ (top o xs n d h fuel ((k - 1) / 2) (omega arith) (omega arith)) (h ((k - 1) / 2) k d (omega arith) (omega arith) (omega arith) b)) (cases-eq k 0)
 
   -- a heap by its elements below m
-  pub agrees : (xs ys : List X) (low n m : ℕ) → m ≤ n → ((i : ℕ) (d : X) → low ≤ i → i < m → getD ys i d ≡ getD xs i d) → Heap lt xs low n → Heap lt ys low m
+  pub agrees : (xs ys : List X) (low n m : ℕ) → m ≤ n → ((i : ℕ) (d : X) → low ≤ i → i < m → getD ys i d ≡ getD xs i d) → Heap lt xs low n
+      → Heap lt ys low m
   agrees xs ys low n m le e h = λ p k d lo a b f. by _ _ _ _ (e p d lo (omega arith)) (e k d (omega arith) f) (h p k d lo a b (omega arith))
 
 -- the order of entries, from the laws of the order of costs

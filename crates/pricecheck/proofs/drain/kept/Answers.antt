@@ -14,7 +14,8 @@ use Rattle.queue.specs.declared.Entry.{Entry}
 use Rattle.queue.specs.declared.Queue.{Queue}
 use Rattle.pricecheck.proofs.drain.kept.Needs as need
 
-one-held : {C : Type 0} (e : Entry C) (q q′ : Queue C) (r : Bool) (room : List (Entry C)) → q .count ≡ 0 → r ≡ true → When r (Pushed e q q′) (Same q q′) → room ≡ slice q′ → Shuffled (e ∷ []) (take 1 room)
+one-held : {C : Type 0} (e : Entry C) (q q′ : Queue C) (r : Bool) (room : List (Entry C)) → q .count ≡ 0 → r ≡ true
+    → When r (Pushed e q q′) (Same q q′) → room ≡ slice q′ → Shuffled (e ∷ []) (take 1 room)
 one-held e q q′ r room none h after is =
     let p = when-true _ _ h after in
     let n : q′ .count ≡ 1 = omega (arith, p .count) in

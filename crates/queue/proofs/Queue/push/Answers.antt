@@ -2,7 +2,7 @@
 use mathlib.Core.Path.{refl, sym}
 use Prim.Native.Nat.{_+_, _-_, _<_}
 use native.Mathlib.Omega.{arith}
-use lib.ListN.{length, set, length-set}
+use lib.ListN.{length, set, drop, length-set}
 use Rattle.std.proofs.shelf.Tests.{ltb-true}
 use Rattle.std.proofs.shelf.Lists.{length-take-le}
 use Rattle.queue.proofs.Held.{pushed, push-order, push-room}
@@ -27,7 +27,7 @@ returns g c =
     let room : n < length es = ltb-true n (length es) (sym has) in
     record {
       value = has;
-      after = record { count = refl {a = n + 1}; adds = pushed es ys _ n ((n + 1) - 0) e (omega arith) room (f .shuffled) };
+      after = record { count = refl {a = n + 1}; adds = pushed es ys (drop ((n + 1) - 0) (set es n e)) n ((n + 1) - 0) e (omega arith) room (f .shuffled) };
       order = push-order ((g .R·PriceRule) .below) es ys _ n ((n + 1) - 0) e (omega arith) room (f .shuffled) (f .order);
       room = push-room es ys n ((n + 1) - 0) e (omega arith) room (f .shuffled);
       lent = refl {a = c .args .self .now .entries .name};
