@@ -1,4 +1,6 @@
 // The book: rows of names, nodes and equations, and which builds the equations make equal.
+#![tactic(auto)]
+
 mod asking;
 pub mod book;
 mod closing;

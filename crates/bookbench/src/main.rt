@@ -1,5 +1,7 @@
 // Builds a full book by calls, in one of three shapes, so that its instructions can be counted. It prints how many calls were granted.
 // The arguments are the number of rows, 1,024 at most, and the shape: `apart`, `towers` or `falling`.
+#![tactic(auto)]
+
 use book::book::Book;
 use book::id::{NodeId, Parts, Symbol};
 use book::row::{Equation, Node, Row};

@@ -1,4 +1,6 @@
 // Runs the worked examples of equality, and the refusals of a book, by calls. A line says yes, no or the number of a refusal.
+#![tactic(auto)]
+
 use book::book::Book;
 use book::id::{NodeId, Parts, Symbol};
 use book::row::{Equation, Node, Row};

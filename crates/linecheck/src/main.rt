@@ -1,4 +1,6 @@
 // Checks flex.log and pairing.sheet in the current folder line by line, and prints what is read and what is refused, and where.
+#![tactic(auto)]
+
 ghost use Rattle.std.specs.Prelude.{◌≤◌, length};
 
 use records::lines::{LONGEST_TEXT, Lines, check_text};

@@ -1,4 +1,6 @@
 // Price rules: the trait with its laws, and the rules bill, stock and steps.
+#![tactic(auto)]
+
 pub mod bill;
 pub mod laws;
 pub mod rule;

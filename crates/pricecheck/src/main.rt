@@ -1,4 +1,6 @@
 // Runs the price rules, their lists and the queue on examples; what it writes is compared.
+#![tactic(auto)]
+
 mod drain;
 mod lists;
 mod rules;

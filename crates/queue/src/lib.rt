@@ -1,4 +1,6 @@
 // The priority queue: a heap over a lent slice of entries, for costs of any kind; the rule is lent to each call.
+#![tactic(auto)]
+
 ghost use Rattle.std.specs.Prelude.{◌≡◌, ◌+◌, ◌*◌, ◌^◌, ◌<◌, ◌≤◌, Bool, length, MatchBool, MatchOption};
 ghost use Rattle.std.specs.List.Sorted.{IsPermutation};
 ghost use Rattle.queue.specs.Queues.{slice, held, has_room, Heaped, Ordered, First, Idle, Same, Pushed, Popped, Tells, Foremost, Rising, Sinking};

@@ -1,5 +1,5 @@
 -- The longest front of name bytes: a lawful name in front of another byte is that front, and the rest is the rest.
-use Rattle.std.proofs.Common.{◌≡◌, ℕ, zero, suc, ◌+◌, ◌<◌, ◌≤◌, true, false, cond, List, [], ◌∷◌, ◌++◌, length, get_or, drop, sym, refl, ap, ◌∙◌, not-suc-le-zero, arith}
+use Rattle.std.proofs.Common.{◌≡◌, ℕ, zero, suc, ◌<◌, ◌≤◌, true, false, cond, List, [], ◌∷◌, ◌++◌, length, get_or, drop, sym, refl, ap, ◌∙◌, not-suc-le-zero, arith}
 use mathlib.Core.List.{append_cancel_left}
 use Rattle.theory.specs.Names.{Name, IsName, letter, name_byte}
 use Rattle.theory.specs.Fronts.{name_run}

@@ -1,4 +1,6 @@
 // The mathematics of builds: each function stands for a theorem, which is its contract.
+#![tactic(auto)]
+
 ghost use Rattle.theory.specs.Statements.{OneReading, DepthWithin, Completeness, Exactness, CheapestAt};
 ghost use Rattle.theory.specs.Steps.{Closing, Settling};
 ghost use Rattle.theory.specs.Pinned.{Pinned};

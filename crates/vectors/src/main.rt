@@ -1,4 +1,6 @@
 // A table of lines and texts with the verdict that each must get: run, compared, and counted.
+#![tactic(auto)]
+
 use records::lines::{Lines, check_text};
 use records::screen::{check_line, pairing_check_line};
 use std::io;
