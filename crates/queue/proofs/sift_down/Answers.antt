@@ -10,14 +10,14 @@ loop-at-init g c =
     let s = c.args.s.now in
     (IsPermutation-refl s, λ sinking. begins (after g.R.PriceRule.below) s (length s) sinking)
 
-pub returns-then-not-goes-before : goal.returns-then-not-goes-before
-returns-then-not-goes-before g c =
+pub returns-then-not-goes_before : goal.returns-then-not-goes_before
+returns-then-not-goes_before g c =
     let l = c.loop-at in
     let m = g.met.R.PriceRule in
     let below = g.R.PriceRule.below in
     let o = ranks below m.order in
-    let f = c.first-child-child in
-    record { shuffled = l.invariant.0; order = λ sinking. rests (after below) o l.s l.at f.result (length l.s) c.if-not-goes-before.ensures f.ensures.foremost (l.invariant.1 sinking) }
+    let f = c.first_child-child in
+    record { shuffled = l.invariant.0; order = λ sinking. rests (after below) o l.s l.at f.result (length l.s) c.if-not-goes_before.ensures f.ensures.foremost (l.invariant.1 sinking) }
 
 pub loop-at-preserved : goal.loop-at-preserved
 loop-at-preserved g c =
@@ -25,12 +25,12 @@ loop-at-preserved g c =
     let m = g.met.R.PriceRule in
     let below = g.R.PriceRule.below in
     let o = ranks below m.order in
-    let f = c.first-child-child in
+    let f = c.first_child-child in
     let e = c.swap.ensures in
     let long = e.len in
     let child = f.ensures.child in (
       IsPermutation-trans _ _ _ l.invariant.0 e.permutation,
-      λ sinking. rw long (sinks (after below) o l.s c.swap.new.self l.at f.result (length l.s) child.0 child.1 child.2 (e.by_index.0, e.by_index.1, e.by_index.2) c.if-not-goes-before.ensures f.ensures.foremost (l.invariant.1 sinking)),
+      λ sinking. rw long (sinks (after below) o l.s c.swap.new.self l.at f.result (length l.s) child.0 child.1 child.2 (e.by_index.0, e.by_index.1, e.by_index.2) c.if-not-goes_before.ensures f.ensures.foremost (l.invariant.1 sinking)),
     )
 
 pub returns : goal.returns

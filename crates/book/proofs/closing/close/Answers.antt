@@ -31,5 +31,5 @@ loop-d-preserved c =
 pub returns : goal.returns
 returns c = record {
   turned = c.loop-d.invariant.0;
-  level = level_of c.loop-d.rows c.args.nodes c.loop-d.dirty c.loop-d.invariant.1 c.in-default.ensures;
+  level = level_of c.loop-d.rows c.args.nodes c.loop-d.dirty c.loop-d.invariant.1 c.in_default.ensures;
 }

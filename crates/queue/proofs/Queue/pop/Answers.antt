@@ -13,9 +13,9 @@ returns g c =
     let some : 0 < k = omega arith in
     let within : k ≤ length es = omega arith in
     let zs = c.swap.new.self in
-    let ys = c.sift-down.new.s in
+    let ys = c.sift_down.new.s in
     let e = c.swap.ensures in
-    let f = c.sift-down.ensures in
+    let f = c.sift_down.ensures in
     let r = read_whole es c.index-self-0.result c.index-self-0-2.result (omega arith) in
     record {
       after = record { count = omega arith; takes = popped es zs ys _ k (k - 1) ((k - 1) - 0) _ (omega arith) (omega arith) (omega arith) r e.by_index.3 e.len f.shuffled };

@@ -5,12 +5,12 @@ use Rattle.std.proofs.lemmas.List.{length-take-le}
 use Rattle.queue.proofs.Held.{pushed, push_order, push_room}
 use Rattle.queue.proofs.Queue.push.Goals as goal
 
-pub sift-up-requires : goal.sift-up-requires
-sift-up-requires g c =
+pub sift_up-requires : goal.sift_up-requires
+sift_up-requires g c =
     let es = c.args.self.now.entries.now in
     let n = c.args.self.now.count in
     let e = c.args.e in
-    let room : n < length es = ltb-true n (length es) (sym c.if-not-has-room.ensures) in
+    let room : n < length es = ltb-true n (length es) (sym c.if-not-has_room.ensures) in
     omega (arith, length-take-le ((n + 1) - 0) (set es n e) (omega (arith, length-set es n e)))
 
 pub returns : goal.returns
@@ -18,9 +18,9 @@ returns g c =
     let es = c.args.self.now.entries.now in
     let n = c.args.self.now.count in
     let e = c.args.e in
-    let ys = c.sift-up.new.s in
-    let f = c.sift-up.ensures in
-    let has = c.if-not-has-room.ensures in
+    let ys = c.sift_up.new.s in
+    let f = c.sift_up.ensures in
+    let has = c.if-not-has_room.ensures in
     let room : n < length es = ltb-true n (length es) (sym has) in
     record {
       value = has;

@@ -8,7 +8,7 @@ use Rattle.records.proofs.field.field_at.Goals as goal
 pub returns : goal.returns
 returns c =
     let xs = c.args.line.now in
-    let e = c.stretch-at.ensures in
+    let e = c.stretch_at.ensures in
     record {
       placed = refl;
       within = rw e (span_within Tab xs c.args.at (omega arith));

@@ -8,5 +8,5 @@ returns-then-at-line c = (refl, after_none c.args.line.now c.args.at (omega arit
 
 pub returns : goal.returns
 returns c =
-    let f = c.field-at.ensures in
+    let f = c.field_at.ensures in
     record { placed = f.placed; within = f.within; goes = after_at c.args.line.now c.args.at (omega arith) ∙ f.goes }

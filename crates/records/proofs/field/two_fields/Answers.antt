@@ -5,22 +5,22 @@ use Rattle.records.proofs.Judges.{count_first, second_deep}
 use Rattle.records.proofs.Splits.{longer_than_two}
 use Rattle.records.proofs.field.two_fields.Goals as goal
 
-pub returns-in-err-no-more : goal.returns-in-err-no-more
-returns-in-err-no-more c =
-    let p = err_from_is_err_and c.from-residual-in-err-no-more.result c.from-residual-in-err-no-more.ensures.1 in
-    let e = c.in-err-no-more.ensures in
+pub returns-in_err-no_more : goal.returns-in_err-no_more
+returns-in_err-no_more c =
+    let p = err_from_is_err_and c.from_residual-in_err-no_more.result c.from_residual-in_err-no_more.ensures.1 in
+    let e = c.in_err-no_more.ensures in
     rw (p.1, p.2, e.0)
     (count_first c.args.start (c.args.left ∷ c.args.right ∷ []) _ (c.args.start + c.args.at + 1)
-    (longer_than_two _ _ _ _ _ c.in-ok-first.ensures.goes c.in-ok-second.ensures.goes e.1))
+    (longer_than_two _ _ _ _ _ c.in_ok-first.ensures.goes c.in_ok-second.ensures.goes e.1))
 
-pub returns-in-err-check-depth-2 : goal.returns-in-err-check-depth-2
-returns-in-err-check-depth-2 c =
-    let p = err_from_is_err_and c.from-residual-in-err-check-depth-2.result c.from-residual-in-err-check-depth-2.ensures.1 in
-    let e = c.in-err-check-depth-2.ensures in
-    let one = c.in-ok-first.ensures in
-    let two = c.in-ok-second.ensures in
+pub returns-in_err-check_depth-2 : goal.returns-in_err-check_depth-2
+returns-in_err-check_depth-2 c =
+    let p = err_from_is_err_and c.from_residual-in_err-check_depth-2.result c.from_residual-in_err-check_depth-2.ensures.1 in
+    let e = c.in_err-check_depth-2.ensures in
+    let one = c.in_ok-first.ensures in
+    let two = c.in_ok-second.ensures in
     rw (p.1, p.2, e.0)
     (second_deep c.args.start c.args.left c.args.right _ _ _ _ _ (c.args.start + c.args.at + 1)
-    c.in-ok-second.second.place one.goes two.goes
-    c.in-ok-no-more.ensures c.in-ok-check-form.ensures c.in-ok-check-form-2.ensures
-    c.in-ok-check-depth.ensures e.1 (omega (arith, one.placed, two.placed)))
+    c.in_ok-second.second.place one.goes two.goes
+    c.in_ok-no_more.ensures c.in_ok-check_form.ensures c.in_ok-check_form-2.ensures
+    c.in_ok-check_depth.ensures e.1 (omega (arith, one.placed, two.placed)))

@@ -5,14 +5,14 @@ use Rattle.records.specs.Numbers.{value, value_on}
 use Rattle.records.proofs.Decimals.{below_digits, few_digits, one_more_digit, digit_most, value_step}
 use Rattle.records.proofs.number.value_of.Goals as goal
 
-pub overflow-mul-total : goal.overflow-mul-total
-overflow-mul-total c =
+pub overflow_mul-total : goal.overflow_mul-total
+overflow_mul-total c =
     let lt : c.loop-b.b-index < length c.args.bytes.now = omega arith in
     let few : below_digits c.loop-b.b-index ≤ 10000 = few_digits _ (omega (arith, c.requires.few)) in
     omega (arith, c.loop-b.invariant.1)
 
-pub overflow-add-total : goal.overflow-add-total
-overflow-add-total c =
+pub overflow_add-total : goal.overflow_add-total
+overflow_add-total c =
     let lt : c.loop-b.b-index < length c.args.bytes.now = omega arith in
     let few : below_digits c.loop-b.b-index ≤ 10000 = few_digits _ (omega (arith, c.requires.few)) in
     let nine = digit_most c.args.bytes.now c.loop-b.b-index (c.requires.digits c.loop-b.b-index lt) in

@@ -6,6 +6,6 @@ use Rattle.records.proofs.record.read_record.Goals as goal
 pub returns : goal.returns
 returns c =
     let both =
-    whole_line c.args.start c.args.line.now c.in-ok-kind.kind _ (ap length c.word.ensures)
-    c.in-ok-kind.ensures c.record-of.result c.record-of.ensures in
+    whole_line c.args.start c.args.line.now c.in_ok-kind.kind _ (ap length c.word.ensures)
+    c.in_ok-kind.ensures c.record_of.result c.record_of.ensures in
     record { reads = both.0; judged = both.1 }

@@ -4,12 +4,12 @@ use Rattle.records.specs.Judging.{longest_line}
 use Rattle.records.proofs.Verdicts.{place_short}
 use Rattle.records.proofs.screen.pairing_check_line.Goals as goal
 
-pub overflow-cast-result-in-Err : goal.overflow-cast-result-in-Err
-overflow-cast-result-in-Err c =
+pub overflow_cast-result-in-Err : goal.overflow_cast-result-in-Err
+overflow_cast-result-in-Err c =
     let h : c.in-Err.refusal.place ≤ longest_line = place_short c.args.line.now c.in-Err.refusal c.in-Err.ensures.refused in
     omega arith
 
-pub overflow-add-result : goal.overflow-add-result
-overflow-add-result c =
+pub overflow_add-result : goal.overflow_add-result
+overflow_add-result c =
     let h : c.in-Err.refusal.place ≤ longest_line = place_short c.args.line.now c.in-Err.refusal c.in-Err.ensures.refused in
     omega arith

@@ -5,8 +5,8 @@ use Rattle.report.proofs.checked.quote.Goals as goal
 
 pub loop-i-preserved : goal.loop-i-preserved
 loop-i-preserved c =
-    quote_more c.loop-i.out c.args.bytes.now c.loop-i.i c.visible-byte.result (omega arith) (omega arith)
-    c.loop-i.invariant c.visible-byte.ensures
+    quote_more c.loop-i.out c.args.bytes.now c.loop-i.i c.visible_byte.result (omega arith) (omega arith)
+    c.loop-i.invariant c.visible_byte.ensures
 
 pub returns : goal.returns
 returns c =

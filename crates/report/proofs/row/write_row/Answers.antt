@@ -7,13 +7,13 @@ use Rattle.report.proofs.row.write_row.Goals as goal
 pub loop-field-init : goal.loop-field-init
 loop-field-init c = (refl, zero-add _, refl)
 
-pub put-field-requires : goal.put-field-requires
-put-field-requires c =
+pub put_field-requires : goal.put_field-requires
+put_field-requires c =
     let fits : length (row (texts c.args.fields.now)) ≤ length c.loop-field.out = omega arith in
     room_ahead _ _ _ _ c.loop-field-test.true c.loop-field.invariant.1 fits
 
-pub overflow-add-at-in-loop-field : goal.overflow-add-at-in-loop-field
-overflow-add-at-in-loop-field c =
+pub overflow_add-at-in-loop-field : goal.overflow_add-at-in-loop-field
+overflow_add-at-in-loop-field c =
     let fits : length (row (texts c.args.fields.now)) ≤ length c.loop-field.out = omega arith in
     omega (arith, room_ahead _ _ _ _ c.loop-field-test.true c.loop-field.invariant.1 fits)
 
@@ -22,13 +22,13 @@ loop-field-preserved c =
     let fits : length (row (texts c.args.fields.now)) ≤ length c.loop-field.out = omega arith in
     let room = room_ahead _ _ _ _ c.loop-field-test.true c.loop-field.invariant.1 fits in
     let more = ahead_more _ _ c.loop-field-test.true in
-    let front = put_front _ _ _ _ _ _ _ room c.put-field.ensures.after more c.loop-field.invariant.0 in
-    let back = put_back _ _ _ _ _ room c.put-field.ensures.after c.loop-field.invariant.2 in
+    let front = put_front _ _ _ _ _ _ _ room c.put_field.ensures.after more c.loop-field.invariant.0 in
+    let back = put_back _ _ _ _ _ room c.put_field.ensures.after c.loop-field.invariant.2 in
     let less = length_ahead_more c.args.fields.now c.loop-field.field-index c.loop-field-test.true in
     (front, omega arith, back)
 
-pub overflow-sub-out : goal.overflow-sub-out
-overflow-sub-out c = omega (arith, row_some (texts c.args.fields.now))
+pub overflow_sub-out : goal.overflow_sub-out
+overflow_sub-out c = omega (arith, row_some (texts c.args.fields.now))
 
 pub bounds-out-len : goal.bounds-out-len
 bounds-out-len c = omega (arith, row_some (texts c.args.fields.now))

@@ -2,8 +2,8 @@
 use Rattle.std.proofs.Common.{◌+◌, ◌*◌}
 use Rattle.text.proofs.build.+read_build_read_parts.Given as goal
 
-abbrev pub decreases-read-build : goal.decreases-read_build
-decreases-read-build l = 2 * l.levels
+abbrev pub decreases-read_build : goal.decreases-read_build
+decreases-read_build l = 2 * l.levels
 
-abbrev pub decreases-read-parts : goal.decreases-read_parts
-decreases-read-parts l = 2 * l.levels + 1
+abbrev pub decreases-read_parts : goal.decreases-read_parts
+decreases-read_parts l = 2 * l.levels + 1

@@ -4,6 +4,6 @@ use Rattle.text.proofs.build.check_build.Goals as goal
 
 pub returns : goal.returns
 returns c =
-    let e = c.read-whole.ensures in
-    let k = checked c.args.levels c.args.bytes.now c.read-whole.result e in
+    let e = c.read_whole.ensures in
+    let k = checked c.args.levels c.args.bytes.now c.read_whole.result e in
     record { value = e; build = k.build; granted = k.granted; deep = k.deep; shallow = k.shallow }

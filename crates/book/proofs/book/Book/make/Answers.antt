@@ -5,8 +5,8 @@ use Rattle.book.proofs.Booked.{kept_of}
 use Rattle.book.proofs.Made.{made_state, made_laid}
 use Rattle.book.proofs.book.Book.make.Goals as goal
 
-pub invariant-of-result : goal.invariant-of-result
-invariant-of-result c = (∣ kept_of _ (sound_fresh c.args.rows.now c.clear.new.rows c.clear.ensures) ∣₁, tt)
+pub invariant_of-result : goal.invariant_of-result
+invariant_of-result c = (∣ kept_of _ (sound_fresh c.args.rows.now c.clear.new.rows c.clear.ensures) ∣₁, tt)
 
 pub returns : goal.returns
 returns c =

@@ -13,8 +13,8 @@ returns-then-a-self c =
     let z = nodes_long s (sound_of s c.requires) in
     no_node (λ h. omega arith) refl refl
 
-pub offset-bounds-self-a : goal.offset-bounds-self-a
-offset-bounds-self-a c = let f = (sound_of (contents c.args.self.now) c.requires).nodes_fit in omega (arith, f.1)
+pub offset_bounds-self-a : goal.offset_bounds-self-a
+offset_bounds-self-a c = let f = (sound_of (contents c.args.self.now) c.requires).nodes_fit in omega (arith, f.1)
 
 pub bounds-self-a : goal.bounds-self-a
 bounds-self-a c = let f = (sound_of (contents c.args.self.now) c.requires).nodes_fit in omega (arith, f.0)

@@ -74,7 +74,7 @@ returns-then-nodes-usable c =
           (unknown_build (state_of s) (book_of s K) (asked c.args.symbol.0 c.args.parts) P
           (λ k h e.
           let h' : k < s.nodes = omega arith in
-          c.in-default.ensures k h'
+          c.in_default.ensures k h'
           (entry_found (row s.rows k).node c.wanted-node.result k s.nodes c.args.symbol.0 c.args.parts c.wanted-node.ensures (K.tidy k h') (sym (node_is s K k h') ∙ e))))
           (omega (arith, c.usable.ensures)) refl refl;
       laid = laid_still s K;
@@ -116,7 +116,7 @@ returns c =
     let k : x.symbol < s.names = omega (arith, g) in
     let A = added_of s symbol parts x _ _ e (omega (arith, c.usable.ensures)) c.put.ensures c.unprice.ensures in
     let L = sound_added s K x t k (ap (λ (y : Node). y.class) e ∙ new_class symbol s.nodes parts) (ap (λ (y : Node). y.choice) e ∙ new_choice symbol s.nodes parts)
-    c.in-default.ensures (omega (arith, c.usable.ensures)) _ _ c.put.ensures c.unprice.ensures in
+    c.in_default.ensures (omega (arith, c.usable.ensures)) _ _ c.put.ensures c.unprice.ensures in
     let P = proper_asked s K symbol parts (omega arith) w in
     let n = nodes_long s K in
     record {
@@ -125,7 +125,7 @@ returns c =
           (unknown_build (state_of s) (book_of s K) (asked symbol parts) P
           (λ k h q.
           let h' : k < s.nodes = omega arith in
-          c.in-default.ensures k h'
+          c.in_default.ensures k h'
           (entry_found (row s.rows k).node x k s.nodes symbol parts e (K.tidy k h') (sym (node_is s K k h') ∙ q))))
           (omega (arith, c.usable.ensures)) (ap granted (sym n))
           _ (added_state s _ K symbol parts A (omega (arith, c.usable.ensures))) (book_of _ L);

@@ -13,12 +13,12 @@ use Rattle.book.proofs.table.Table.name.Goals as goal
 pub look-requires : goal.look-requires
 look-requires c = (sound_of (contents c.args.self.now) c.requires).names_fit.0
 
-pub returns-then-not-is-name : goal.returns-then-not-is-name
-returns-then-not-is-name c =
+pub returns-then-not-is_name : goal.returns-then-not-is_name
+returns-then-not-is_name c =
     let s = contents c.args.self.now in
     record {
       holds = c.requires;
-      answer = ill_formed (λ G. false≢true (c.if-not-is-name.ensures.1 G)) refl refl;
+      answer = ill_formed (λ G. false≢true (c.if-not-is_name.ensures.1 G)) refl refl;
       laid = laid_still s (sound_of s c.requires);
       lent = refl;
     }
@@ -27,7 +27,7 @@ pub returns-in-Some : goal.returns-in-Some
 returns-in-Some c =
     let s = contents c.args.self.now in
     let K = sound_of s c.requires in
-    let G = c.if-not-is-name.ensures.0 refl in
+    let G = c.if-not-is_name.ensures.0 refl in
     let f = c.in-Some.ensures in
     let i = c.in-Some.i in
     record {
@@ -43,8 +43,8 @@ pub returns-then-n-usable : goal.returns-then-n-usable
 returns-then-n-usable c =
     let s = contents c.args.self.now in
     let K = sound_of s c.requires in
-    let G = c.if-not-is-name.ensures.0 refl in
-    let none = no_title s K c.padded-title.result c.args.bytes.now G c.padded-title.ensures c.in-default.ensures in
+    let G = c.if-not-is_name.ensures.0 refl in
+    let none = no_title s K c.padded-title.result c.args.bytes.now G c.padded-title.ensures c.in_default.ensures in
     record {
       holds = c.requires;
       answer = full G (λ k h e. let h' = names_long s K in none k (omega arith) (sym (name_is s K k (omega arith)) ∙ e))
@@ -57,11 +57,11 @@ pub returns : goal.returns
 returns c =
     let s = contents c.args.self.now in
     let K = sound_of s c.requires in
-    let G = c.if-not-is-name.ensures.0 refl in
+    let G = c.if-not-is_name.ensures.0 refl in
     let P = c.padded-title.ensures in
     let title = c.padded-title.result in
     let bs = c.args.bytes.now in
-    let none = no_title s K title bs G P c.in-default.ensures in
+    let none = no_title s K title bs G P c.in_default.ensures in
     let T = titled_of s title bs P (omega (arith, c.usable.ensures)) in
     let L = sound_titled s K title bs G P none (omega (arith, c.usable.ensures)) in
     record {

@@ -17,14 +17,14 @@ returns-then-a-self c =
       | then-a-self-via-else-a-self+then-b-self w ↦ omega (arith, h.1, w.if-b-self.true)
     ]) refl refl
 
-pub offset-bounds-self-a : goal.offset-bounds-self-a
-offset-bounds-self-a c = let f = (sound_of (contents c.args.self.now) c.requires).nodes_fit in omega (arith, f.1)
+pub offset_bounds-self-a : goal.offset_bounds-self-a
+offset_bounds-self-a c = let f = (sound_of (contents c.args.self.now) c.requires).nodes_fit in omega (arith, f.1)
 
 pub bounds-self-a : goal.bounds-self-a
 bounds-self-a c = let f = (sound_of (contents c.args.self.now) c.requires).nodes_fit in omega (arith, f.0)
 
-pub offset-bounds-self-b : goal.offset-bounds-self-b
-offset-bounds-self-b c = let f = (sound_of (contents c.args.self.now) c.requires).nodes_fit in omega (arith, f.1)
+pub offset_bounds-self-b : goal.offset_bounds-self-b
+offset_bounds-self-b c = let f = (sound_of (contents c.args.self.now) c.requires).nodes_fit in omega (arith, f.1)
 
 pub bounds-self-b : goal.bounds-self-b
 bounds-self-b c = let f = (sound_of (contents c.args.self.now) c.requires).nodes_fit in omega (arith, f.0)

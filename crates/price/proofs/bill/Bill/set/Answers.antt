@@ -11,10 +11,10 @@ returns-in-Some c =
     let e = c.write.ensures in
     record { after = changed i (omega arith) f refl e; value = changed_price c.args.self.now.rows i c.args.symbol c.args.price _ f e }
 
-pub returns-in-Some-free-row : goal.returns-in-Some-free-row
-returns-in-Some-free-row c =
-    let i = c.in-Some-free-row.i in
-    let none = c.in-default.ensures in
-    let f = c.in-Some-free-row.ensures in
-    let e = c.write-in-Some-free-row.ensures in
+pub returns-in-Some-free_row : goal.returns-in-Some-free_row
+returns-in-Some-free_row c =
+    let i = c.in-Some-free_row.i in
+    let none = c.in_default.ensures in
+    let f = c.in-Some-free_row.ensures in
+    let e = c.write-in-Some-free_row.ensures in
     record { after = added i (omega arith) none f refl e; value = added_price c.args.self.now.rows i c.args.symbol c.args.price _ none f e }

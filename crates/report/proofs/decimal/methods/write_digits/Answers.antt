@@ -8,8 +8,8 @@ pub loop-left-init : goal.loop-left-init
 loop-left-init c =
     (onto_first c.args.n 19 c.args.bytes.now (omega arith) c.requires, omega arith, omega arith, simp length-set c.requires, omega arith)
 
-pub overflow-sub-start : goal.overflow-sub-start
-overflow-sub-start c = (places c.loop-left.left c.loop-left.start c.loop-left-test.true c.loop-left.invariant.1).0
+pub overflow_sub-start : goal.overflow_sub-start
+overflow_sub-start c = (places c.loop-left.left c.loop-left.start c.loop-left-test.true c.loop-left.invariant.1).0
 
 pub loop-left-preserved : goal.loop-left-preserved
 loop-left-preserved c =
