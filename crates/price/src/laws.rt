@@ -7,5 +7,5 @@ use crate::rule::PriceRule;
 
 /// Whatever numbers the names have: under a price rule every build's cost is one of the rule's costs, and the order by cost keeps the laws on builds.
 pub fn laws_hold<R: PriceRule>(rule: &R)
-    ensures { (number : Name → ℕ) → Costed fits (rule_of below alone one two rule.now number) }
+    ensures { (number : Name → ℕ) → Costed R.fits (rule_of R.below R.alone R.one R.two rule.now number) }
 {}

@@ -4,7 +4,7 @@ use Rattle.std.specs.Cmp.{IsStrictWeakOrder}
 use Rattle.std.specs.Slice.Heapsort.{IsHeapWithin}
 use Rattle.std.specs.List.Sorted.{IsPermutation}
 use Rattle.std.specs.List.{swap_remove}
-use Rattle.std.proofs.Permutation.{taken-first}
+use Rattle.std.proofs.Permutation.{taken_at}
 use Rattle.std.proofs.lemmas.List.{take_more_set, take_at, take-take, take-set-le, get_or-take, get_or_append_left, length-take-le, length-append, get_or_default}
 use Rattle.std.proofs.ByRecursion.{all_from_every}
 use Rattle.std.proofs.lemmas.List.Sorted.{IsPermutation-sym, IsPermutation-trans, IsPermutation-cons, IsPermutation-to_front, length_permutation}
@@ -101,7 +101,7 @@ module _ {C : Type 0} where
       let lc = length-take-le c es (omega arith) in
       let w : swap_remove (take c es) 0 x ≡ take m zs = ap (λ k. swap_remove (take k es) 0 x) ic ∙ without es zs n x in' (is x) ∙ ap (λ k. take k zs) (sym im) in
       let f : x ≡ get_or (take c es) 0 x = first ∙ sym (get_or-take c es 0 x (omega arith)) in
-      IsPermutation-trans _ _ _ (taken-first (take c es) x (omega arith) f)
+      IsPermutation-trans _ _ _ (taken_at (take c es) 0 x (omega arith) f)
       (subst (λ v. IsPermutation (x ∷ swap_remove (take c es) 0 x) (x ∷ v)) (sym (take_at ys rest n long)) (IsPermutation-cons x _ _ (subst (λ v. IsPermutation v ys) (sym w) s)))
 
   -- an entry that is read field by field is the entry

@@ -17,7 +17,7 @@ pub struct Entry<C> {
 // Whether the entry at `i` goes before the one at `j`.
 fn goes_before<R: PriceRule>(rule: &R, s: &[Entry<R::Cost>], i: usize, j: usize) -> bool
     requires { (i < length s.now) × (j < length s.now) }
-    ensures { Tells below s.now i j result }
+    ensures { Tells R.below s.now i j result }
 {
     if rule.is_below(s[i].cost, s[j].cost) {
         true
@@ -48,7 +48,7 @@ fn left_of(at: usize) -> usize
 fn sift_up<R: PriceRule>(rule: &R, s: &mut [Entry<R::Cost>])
     requires { 0 < length s.old }
     ensures shuffled { IsPermutation s.old s.new }
-    ensures order { Rising below s.old → Heaped below (length s.new) s.new }
+    ensures order { Rising R.below s.old → Heaped R.below (length s.new) s.new }
 {
     let mut at = s.len() - 1;
     while at > 0 {
@@ -65,7 +65,7 @@ fn sift_up<R: PriceRule>(rule: &R, s: &mut [Entry<R::Cost>])
 fn first_child<R: PriceRule>(rule: &R, s: &[Entry<R::Cost>], at: usize) -> usize
     requires { at * 2 + 1 < length s.now }
     ensures child { (at * 2 + 1 ≤ result) × (result ≤ at * 2 + 2) × (result < length s.now) }
-    ensures foremost { Foremost below s.now at result }
+    ensures foremost { Foremost R.below s.now at result }
 {
     let left = left_of(at);
     if left + 1 < s.len() && goes_before(rule, s, left + 1, left) {
@@ -78,7 +78,7 @@ fn first_child<R: PriceRule>(rule: &R, s: &[Entry<R::Cost>], at: usize) -> usize
 // Brings the first entry down to its place.
 fn sift_down<R: PriceRule>(rule: &R, s: &mut [Entry<R::Cost>])
     ensures shuffled { IsPermutation s.old s.new }
-    ensures order { Sinking below s.old → Heaped below (length s.new) s.new }
+    ensures order { Sinking R.below s.old → Heaped R.below (length s.new) s.new }
 {
     let mut at = 0;
     while at < s.len() / 2 {
@@ -127,7 +127,7 @@ impl<'a, C: Copy> Queue<'a, C> {
     pub fn push<R: PriceRule<Cost = C>>(&mut self, rule: &R, e: Entry<C>) -> bool
         ensures value { result ≡ has_room self.old }
         ensures after { MatchBool result (Pushed e self.old self.new) (Same self.old self.new) }
-        ensures order { Ordered below self.old → Ordered below self.new }
+        ensures order { Ordered R.below self.old → Ordered R.below self.new }
         ensures room { length (slice self.new) ≡ length (slice self.old) }
         ensures lent { self.new.entries.ghost_name ≡ self.old.entries.ghost_name }
     {
@@ -144,8 +144,8 @@ impl<'a, C: Copy> Queue<'a, C> {
     /// Takes out an entry that no other goes before; none where nothing is held.
     pub fn pop<R: PriceRule<Cost = C>>(&mut self, rule: &R) -> Option<Entry<C>>
         ensures after { MatchOption result (Idle self.old × Same self.old self.new) (λ x. Popped x self.old self.new) }
-        ensures first { Ordered below self.old → MatchOption result (self.old.count ≡ 0) (λ x. First below x (held self.old)) }
-        ensures order { Ordered below self.old → Ordered below self.new }
+        ensures first { Ordered R.below self.old → MatchOption result (self.old.count ≡ 0) (λ x. First R.below x (held self.old)) }
+        ensures order { Ordered R.below self.old → Ordered R.below self.new }
         ensures room { length (slice self.new) ≡ length (slice self.old) }
         ensures lent { self.new.entries.ghost_name ≡ self.old.entries.ghost_name }
     {

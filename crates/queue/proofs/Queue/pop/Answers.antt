@@ -22,5 +22,5 @@ returns g c =
       first = top_first below o es k _ some r;
       order = pop_order below es zs ys _ k (k - 1) ((k - 1) - 0) (omega arith) (omega arith) (omega arith) e.len (e.by_index.0, e.by_index.1, e.by_index.2) f.shuffled f.order;
       room = pop_room es zs ys ((k - 1) - 0) (omega arith) e.len f.shuffled;
-      lent = refl {a = c.args.self.now.entries.name};
+      lent = refl {a = c.args.self.now.entries.ghost_name};
     }

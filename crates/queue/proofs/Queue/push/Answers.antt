@@ -27,5 +27,5 @@ returns g c =
       after = record { count = refl {a = n + 1}; adds = pushed es ys (drop ((n + 1) - 0) (set es n e)) n ((n + 1) - 0) e (omega arith) room f.shuffled };
       order = push_order g.R.PriceRule.below es ys _ n ((n + 1) - 0) e (omega arith) room f.shuffled f.order;
       room = push_room es ys n ((n + 1) - 0) e (omega arith) room f.shuffled;
-      lent = refl {a = c.args.self.now.entries.name};
+      lent = refl {a = c.args.self.now.entries.ghost_name};
     }

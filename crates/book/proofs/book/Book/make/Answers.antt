@@ -6,7 +6,7 @@ use Rattle.book.proofs.Made.{made_state, made_laid}
 use Rattle.book.proofs.book.Book.make.Goals as goal
 
 pub invariant_of-result : goal.invariant_of-result
-invariant_of-result c = (∣ kept_of _ (sound_fresh c.args.rows.now c.clear.new.rows c.clear.ensures) ∣₁, tt)
+invariant_of-result c = record { holds = ∣ kept_of _ (sound_fresh c.args.rows.now c.clear.new.rows c.clear.ensures) ∣₁ }
 
 pub returns : goal.returns
 returns c =
