@@ -1,5 +1,5 @@
 -- A node more in the rows is a node more in the state.
-use Rattle.std.proofs.Common.{◌≡◌, ℕ, ◌+◌, ◌-◌, ◌<◌, ◌≤◌, min, Bool, cond, [], ◌∷◌, ◌++◌, map, length, take, sym, refl, ap, ◌∙◌, inl, inr, arith}
+use Rattle.std.proofs.Common.{◌≡◌, ℕ, ◌-◌, ◌<◌, ◌≤◌, min, Bool, cond, [], ◌∷◌, ◌++◌, map, length, take, sym, refl, ap, ◌∙◌, inl, inr, arith}
 use Rattle.theory.specs.Books.{with_node as node-more}
 use Rattle.theory.proofs.Books.{same_state}
 use Rattle.book.specs.declared.row.Row.{Row}

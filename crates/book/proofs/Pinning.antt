@@ -1,9 +1,9 @@
 -- The rows after a call are pinned by the rows before it and by the state after it.
-use Rattle.std.proofs.Common.{◌≡◌, ℕ, ◌<◌, ◌≤◌, ◌⊎◌, length, sym, ap, ◌∙◌, inl, inr, arith}
+use Rattle.std.proofs.Common.{◌≡◌, ℕ, ◌<◌, ◌≤◌, ◌⊎◌, sym, ap, ◌∙◌, inl, inr, arith}
 use Rattle.std.proofs.lemmas.List.{ext_get_or}
 use Rattle.theory.specs.Books.{State}
 use Rattle.book.specs.Rows.{absent, row}
-use Rattle.book.specs.Layout.{Contents, room, state_of, laid_row, Relaid, Pins}
+use Rattle.book.specs.Layout.{room, laid_row, Pins}
 use Rattle.book.proofs.Accepting.{either}
 
 pub pins : Pins

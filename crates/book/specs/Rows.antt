@@ -15,7 +15,7 @@
 -- | Based      | a class goes by the number of one of its nodes, and none of them is lower                   |
 -- | Unchosen   | the choices are set to 0                                                                    |
 -- | Relabelled | one class is put into another                                                               |
-use Rattle.std.specs.Prelude.{◌≡◌, ℕ, zero, suc, ◌<◌, ◌≤◌, cond, List, [], ◌∷◌, map, length, take, set, ◌==◌, slice_index_or, slice_set}
+use Rattle.std.specs.Prelude.{◌≡◌, ℕ, zero, suc, ◌<◌, ◌≤◌, cond, List, [], ◌∷◌, map, length, take, ◌==◌, slice_index_or, slice_set}
 use Rattle.theory.specs.Names.{Name}
 use Rattle.theory.specs.Tables.{Shape, atom, unary, binary, Table, NodePairs, map_parts}
 use Rattle.book.specs.declared.row.Row.{Row}

@@ -1,11 +1,11 @@
 -- The laws of a price rule hold of builds, compared by what they cost.
-use Rattle.std.proofs.Common.{◌≡◌, ℕ, Bool, true, false, arith}
+use Rattle.std.proofs.Common.{ℕ, Bool, arith}
 use Rattle.std.proofs.lemmas.Bool.Decides.{nat_tests}
 use Rattle.theory.specs.Names.{Name}
 use Rattle.theory.specs.Builds.{Build, alone, one, two}
-use Rattle.theory.specs.Costs.{Rule, RuleLaws, cost_of}
+use Rattle.theory.specs.Costs.{cost_of}
 use Rattle.price.specs.Laws.{AtMost, Fitting, Order, Growth, Weight}
-use Rattle.price.specs.Rules.{rule_of, by_cost, Costed}
+use Rattle.price.specs.Rules.{rule_of, Costed}
 
 -- to be no dearer is transitive
 pub ties : {C : Type 0} (below : C → C → Bool) → Order below → (a b c : C) → AtMost below a b → AtMost below b c → AtMost below a c

@@ -1,11 +1,10 @@
 -- How a stock list is read and changed, and how shortages grow.
-use Rattle.std.proofs.Common.{◌≡◌, ℕ, zero, suc, ◌+◌, ◌<◌, ◌≤◌, Bool, true, false, cond, eqb, ◌⊎◌, List, [], ◌∷◌, length, get_or, set, sym, refl, ◌∙◌, subst, inl, inr, le_of_suc-le-suc, not-suc-le-zero, arith}
+use Rattle.std.proofs.Common.{◌≡◌, ℕ, zero, suc, ◌<◌, true, false, cond, eqb, ◌⊎◌, List, [], ◌∷◌, length, get_or, set, sym, refl, ◌∙◌, subst, inl, inr, le_of_suc-le-suc, not-suc-le-zero, arith}
 use Rattle.std.proofs.lemmas.Bool.{cond-true, cond-false}
 use Rattle.std.proofs.lemmas.Bool.Decides.{nat_tests, eqb_tells}
-use Rattle.price.specs.Finding.{NotBefore, Nowhere, FirstAt}
-use Rattle.price.specs.Shortages.{stock_row, is_for, is_free, on_list, Enlisted, smaller, shortage}
+use Rattle.price.specs.Finding.{Nowhere, FirstAt}
+use Rattle.price.specs.Shortages.{stock_row, is_for, is_free, on_list, Enlisted}
 use Rattle.price.proofs.Finding.{tail}
-use Rattle.price.specs.declared.stock.Shortage.{Shortage}
 use Rattle.price.specs.declared.stock.StockRow.{StockRow}
 
 pub listed : (rs : List StockRow) (i x : ℕ) (d : StockRow) → i < length rs → is_for x (get_or rs i d) ≡ true → on_list rs x ≡ true

@@ -10,7 +10,7 @@
 -- | dearest   | the highest price that may be set                                            |
 -- | Setting   | what setting a price answers, and which list it leaves                       |
 -- | Repriced  | that symbol has the new price, and every other symbol has the price it had   |
-use Rattle.std.specs.Prelude.{◌≡◌, ℕ, ◌<◌, ◌≤◌, Bool, true, false, cond, List, [], ◌∷◌, set, Ok, Err, Result, ◌==◌, slice_set}
+use Rattle.std.specs.Prelude.{◌≡◌, ℕ, ◌<◌, ◌≤◌, Bool, true, false, cond, List, [], ◌∷◌, Ok, Err, Result, ◌==◌, slice_set}
 use Rattle.text.specs.declared.cause.Layer.{Layer}
 use Rattle.text.specs.declared.cause.Layer.TheVariants.{Field, Book}
 use Rattle.text.specs.declared.cause.FieldCause.TheVariants.{Broken}

@@ -1,13 +1,13 @@
 -- What each step of a sift keeps.
-use Rattle.std.proofs.Common.{◌≡◌, ℕ, zero, suc, ◌+◌, ◌-◌, ◌*◌, ◌/◌, ◌<◌, ◌≤◌, Bool, true, false, cond, ltb, List, length, get_or, sym, refl, ap, ◌∙◌, subst, ⊎_elim, arith}
+use Rattle.std.proofs.Common.{◌≡◌, ℕ, zero, suc, ◌+◌, ◌-◌, ◌*◌, ◌/◌, ◌<◌, ◌≤◌, Bool, true, false, List, get_or, refl, ap, ◌∙◌, ⊎_elim, arith}
 use Rattle.std.specs.Cmp.{IsStrictWeakOrder}
 use Rattle.std.specs.Slice.Heapsort.{IsHeapWithin, IsNotBelowChildren}
 use Rattle.std.specs.BinaryHeap.Sift.{IsHeapWithHole}
-use Rattle.std.proofs.lemmas.Bool.{cases_eq, ltb-true, ltb-false, lt-ltb, le-ltb, both_ways}
+use Rattle.std.proofs.lemmas.Bool.{cases_eq}
 use Rattle.std.proofs.lemmas.Bool.Decides.{nat_tests}
 use Rattle.queue.specs.declared.Entry.{Entry}
 use Rattle.price.specs.Laws.{Order}
-use Rattle.queue.specs.Queues.{before, after}
+use Rattle.queue.specs.Queues.{after}
 
 -- ys is xs with the elements at a and b in each other's place, as `swap` says it
 abbrev pub Places : {X : Type 0} → List X → List X → ℕ → ℕ → Type 0

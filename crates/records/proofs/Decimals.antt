@@ -1,9 +1,9 @@
 -- How large a number of so many digits can be, and the step of reading one more digit.
-use Rattle.std.proofs.Common.{◌≡◌, ℕ, zero, suc, ◌+◌, ◌-◌, ◌*◌, ◌<◌, ◌≤◌, Bool, true, false, cond, leb, List, ◌∷◌, length, get_or, drop, sym, ap, ◌∙◌, add-one, arith}
+use Rattle.std.proofs.Common.{◌≡◌, ℕ, zero, suc, ◌+◌, ◌-◌, ◌*◌, ◌<◌, ◌≤◌, true, List, length, get_or, drop, sym, ap, ◌∙◌, add-one, arith}
 use Rattle.std.proofs.lemmas.List.{at_drop_more}
 use Rattle.std.proofs.lemmas.Bool.Decides.{nat_tests}
 use Rattle.theory.specs.Names.{digit}
-use Rattle.records.specs.Numbers.{AllDigits, value, value_on}
+use Rattle.records.specs.Numbers.{value, value_on}
 
 -- the first number that has more than n digits
 abbrev pub below_digits : ℕ → ℕ

@@ -1,10 +1,9 @@
 -- From the fields behind a kind word to the whole line: what is granted, and which refusal comes first.
-use Rattle.std.proofs.Common.{◌≡◌, ℕ, ◌+◌, ◌*◌, ◌<◌, ◌≤◌, cond, eqb, List, [], ◌∷◌, length, get_or, drop, IfOk, Ok, Err, Result, sym, refl, ap, ◌∙◌, subst, arith, MatchResult}
-use Rattle.text.specs.Causes.{number_of}
+use Rattle.std.proofs.Common.{◌≡◌, ℕ, ◌+◌, ◌*◌, cond, eqb, List, ◌∷◌, length, get_or, drop, IfOk, Ok, Err, Result, sym, refl, ap, ◌∙◌, subst, arith, MatchResult}
 use Rattle.text.specs.Kinds.{word}
 use Rattle.records.specs.Forms.{forms}
 use Rattle.records.specs.Fields.{fields, after}
-use Rattle.records.specs.Judging.{FirstBad, FieldBreaks, BreaksBehind, Breaks, FirstBreak, Unbroken}
+use Rattle.records.specs.Judging.{FieldBreaks, BreaksBehind, Breaks, FirstBreak, Unbroken}
 use Rattle.records.specs.Records.{Headed, Granted, Reads}
 use Rattle.text.specs.declared.kind.Kind.{Kind}
 use Rattle.text.specs.declared.kind.Kind.TheVariants as kind

@@ -1,15 +1,14 @@
 -- A refusal comes first where no refusal with a lower number has its condition: the conditions, one by one.
-use Rattle.std.proofs.Common.{◌≡◌, ℕ, ◌+◌, ◌<◌, ◌≤◌, ◌⊎◌, List, [], ◌∷◌, length, sym, refl, ap, ◌∙◌, subst, inl, inr, ⊎_elim, arith}
+use Rattle.std.proofs.Common.{◌≡◌, ℕ, ◌+◌, ◌<◌, List, [], ◌∷◌, length, sym, refl, ap, ◌∙◌, subst, inl, inr, ⊎_elim, arith}
 use Rattle.text.specs.Causes.{number_of}
 use Rattle.records.specs.Forms.{Fits, Unfit, Deep}
 use Rattle.records.specs.Fields.{wrong_count}
-use Rattle.records.specs.Judging.{Leftmost, FieldBreaks, FirstBreak, Unbroken, broken, too_deep}
+use Rattle.records.specs.Judging.{Leftmost, FieldBreaks, FirstBreak, broken, too_deep}
 use Rattle.records.specs.declared.form.Form.{Form}
 use Rattle.text.specs.declared.cause.LineCause.TheVariants.{TextTooLong, LineTooLong, BadByte, UnknownKind, WrongState, WrongCount}
 use Rattle.text.specs.declared.cause.FieldCause.TheVariants.{Broken, TooDeep, WrongTotal}
 use Rattle.text.specs.declared.cause.Layer.{Layer}
 use Rattle.text.specs.declared.cause.Layer.TheVariants.{Field, Line, Book}
-use Rattle.text.specs.declared.refusal.Refusal.{Refusal}
 
 -- no condition on the fields below number n holds, where the three of them do not
 pub none_below : (start : ℕ) (ks : List Form) (fs : List (List ℕ)) (at n : ℕ)

@@ -1,7 +1,6 @@
 -- A line's fields: the first one, and those behind the tab that ends it.
-use Rattle.std.proofs.Common.{◌≡◌, ℕ, ◌+◌, ◌<◌, ◌≤◌, Bool, true, false, cond, eqb, List, [], ◌∷◌, length, drop, sym, refl, ap, ◌∙◌, arith}
+use Rattle.std.proofs.Common.{◌≡◌, ℕ, ◌+◌, ◌<◌, ◌≤◌, true, false, cond, eqb, List, [], ◌∷◌, length, drop, sym, refl, ap, ◌∙◌, arith}
 use Rattle.std.proofs.lemmas.List.{drop-drop, drop_more, drop_all}
-use Rattle.text.specs.Scanning.{front}
 use Rattle.records.specs.Fields.{field, longer, fields, after}
 use Rattle.text.specs.declared.scan.Stop.TheVariants.{Tab}
 use Rattle.text.proofs.Fronts.{span}

@@ -10,7 +10,7 @@
 -- | Unbroken   | no condition of a refusal holds, at any place                                    |
 --
 -- A line is given as its bytes xs and the place `start` of its first byte in its text. All places are places in the text.
-use Rattle.std.specs.Prelude.{◌≡◌, ℕ, ◌+◌, ◌<◌, ◌≤◌, Bool, true, false, cond, ◌⊎◌, List, [], ◌∷◌, length, ◌==◌, ◌≢◌, nat_le, slice_index}
+use Rattle.std.specs.Prelude.{◌≡◌, ℕ, ◌+◌, ◌<◌, Bool, true, false, cond, ◌⊎◌, List, [], ◌∷◌, length, ◌==◌, ◌≢◌, nat_le, slice_index}
 use Rattle.text.specs.Causes.{number_of}
 use Rattle.text.specs.Kinds.{word}
 use Rattle.records.specs.Forms.{Unfit, Deep, forms}

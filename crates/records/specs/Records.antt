@@ -18,7 +18,6 @@ use Rattle.records.specs.Fields.{fields, after}
 use Rattle.records.specs.Judging.{longest_line, FirstBad, FieldBreaks, Unbroken}
 use Rattle.text.specs.declared.kind.Kind.{Kind}
 use Rattle.text.specs.declared.kind.Kind.TheVariants as kind
-use Rattle.text.specs.declared.kind.Rule.{Rule}
 use Rattle.records.specs.declared.field.Field.{Field}
 use Rattle.records.specs.declared.field.Number.{Number}
 use Rattle.records.specs.declared.record.Record.{Record}

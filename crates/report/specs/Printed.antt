@@ -7,7 +7,7 @@
 -- | fault_fields | FAULT, the text, the line, the number, the place, and the cited bytes if any     |
 -- | line_fields  | the text, the line, the kind and the fields as read                              |
 -- | total_fields | LINES and how many, FAULTS and how many                                          |
-use Rattle.std.specs.Prelude.{ℕ, Bool, true, false, cond, List, [], ◌∷◌, ◌++◌, map, take, codes, decimal, nat_le}
+use Rattle.std.specs.Prelude.{ℕ, cond, List, [], ◌∷◌, map, take, codes, decimal, nat_le}
 use Rattle.text.specs.Citing.{source_word}
 use Rattle.records.specs.Records.{parts}
 use Rattle.text.specs.declared.fault.Fault.{Fault}

@@ -5,11 +5,8 @@
 -- | number_of | the refusal number of a cause: 3 to 8 are of the line, 9 to 11 of  |
 -- |           | a field, all others of the book; checks run in their order         |
 use Rattle.std.specs.Prelude.{ℕ}
-use Rattle.text.specs.declared.cause.LineCause.{LineCause}
 use Rattle.text.specs.declared.cause.LineCause.TheVariants.{TextTooLong, LineTooLong, BadByte, UnknownKind, WrongState, WrongCount}
-use Rattle.text.specs.declared.cause.FieldCause.{FieldCause}
 use Rattle.text.specs.declared.cause.FieldCause.TheVariants.{Broken, TooDeep, WrongTotal}
-use Rattle.text.specs.declared.cause.BookCause.{BookCause}
 use Rattle.text.specs.declared.cause.BookCause.TheVariants.{NoSymbol, NoNode, ListFull, NamesFull, NodesFull, EquationsFull, NotPriced, TooShort}
 use Rattle.text.specs.declared.cause.Layer.{Layer}
 use Rattle.text.specs.declared.cause.Layer.TheVariants.{Field, Line, Book}

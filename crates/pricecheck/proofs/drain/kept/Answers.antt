@@ -1,5 +1,5 @@
 -- The slice that was lent is the queue's, so it has the entry that was pushed.
-use Rattle.std.proofs.Common.{◌≡◌, ◌+◌, Bool, true, List, [], ◌∷◌, take, MatchBool, sym, ◌∙◌, subst, arith, rules}
+use Rattle.std.proofs.Common.{◌≡◌, Bool, true, List, [], ◌∷◌, take, MatchBool, sym, subst, arith, rules}
 use Rattle.std.specs.List.Sorted.{IsPermutation}
 use Rattle.std.proofs.lemmas.Bool.Decides.{when_true}
 use Rattle.queue.specs.Queues.{slice, Pushed, Same}

@@ -1,5 +1,5 @@
 -- The first entry changes places with the last, which is sifted down.
-use Rattle.std.proofs.Common.{◌+◌, ◌-◌, ◌<◌, ◌≤◌, length, get_or, refl, arith}
+use Rattle.std.proofs.Common.{◌-◌, ◌<◌, ◌≤◌, length, refl, arith}
 use Rattle.queue.proofs.Held.{popped, pop_order, top_first, pop_room, read_whole}
 use Rattle.queue.proofs.Sifts.{ranks}
 use Rattle.queue.proofs.Queue.pop.Goals as goal

@@ -1,5 +1,5 @@
 -- The stretch to the next line feed is the first line.
-use Rattle.std.proofs.Common.{◌≡◌, ◌+◌, ◌<◌, ◌≤◌, length, drop, ap, arith}
+use Rattle.std.proofs.Common.{◌≡◌, length, drop, ap, arith}
 use Rattle.text.specs.declared.scan.Stop.TheVariants.{Feed}
 use Rattle.text.proofs.Fronts.{span, span_within}
 use Rattle.records.proofs.LineSplits.{line_fed, line_last}

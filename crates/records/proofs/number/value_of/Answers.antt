@@ -1,7 +1,7 @@
 -- The total stays within five digits, and takes each digit in its turn.
-use Rattle.std.proofs.Common.{◌≡◌, ◌-◌, ◌<◌, ◌≤◌, length, get_or, drop, sym, ap, ◌∙◌, arith}
+use Rattle.std.proofs.Common.{◌<◌, ◌≤◌, length, sym, ◌∙◌, arith}
 use Rattle.std.proofs.lemmas.List.{at_drop_all}
-use Rattle.records.specs.Numbers.{value, value_on}
+use Rattle.records.specs.Numbers.{value_on}
 use Rattle.records.proofs.Decimals.{below_digits, few_digits, one_more_digit, digit_most, value_step}
 use Rattle.records.proofs.number.value_of.Goals as goal
 

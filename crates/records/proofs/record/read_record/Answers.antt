@@ -1,5 +1,5 @@
 -- The answer for the fields behind the kind word is the answer for the line.
-use Rattle.std.proofs.Common.{length, ap, ◌∙◌}
+use Rattle.std.proofs.Common.{length, ap}
 use Rattle.records.proofs.Heads.{whole_line}
 use Rattle.records.proofs.record.read_record.Goals as goal
 

@@ -1,5 +1,5 @@
 -- The fields of the row are those of the fault.
-use Rattle.std.proofs.Common.{◌≡◌, take, ap, ◌∙◌, arith}
+use Rattle.std.proofs.Common.{take, ap, ◌∙◌}
 use native.Mathlib.Nat.{sub-zero}
 use Rattle.report.proofs.Quotes.{fault_made}
 use Rattle.report.proofs.checked.print_fault.Goals as goal
