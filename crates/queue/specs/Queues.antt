@@ -23,7 +23,7 @@
 use Rattle.std.specs.Prelude.{◌≡◌, ℕ, ◌+◌, ◌<◌, ◌≤◌, Bool, true, false, cond, List, ◌∷◌, length, take, nat_lt, slice_index_or}
 use Rattle.std.specs.Slice.Heapsort.{IsHeapWithin, IsNotBelowChildren}
 use Rattle.std.specs.List.Sorted.{IsPermutation}
-use Rattle.std.specs.List.{AllByRecursion as All}
+use Rattle.std.specs.List.{AllByRecursion}
 use Rattle.queue.specs.declared.Entry.{Entry}
 use Rattle.queue.specs.declared.Queue.{Queue}
 
@@ -49,7 +49,7 @@ abbrev pub Ordered : {C : Type 0} → (C → C → Bool) → Queue C → Type 0
 Ordered below q = OrderedIn below q.count (slice q)
 
 abbrev pub First : {C : Type 0} → (C → C → Bool) → Entry C → List (Entry C) → Type 0
-First below x es = All (λ y. before below y x ≡ false) es
+First below x es = AllByRecursion (λ y. before below y x ≡ false) es
 
 abbrev pub has_room : {C : Type 0} → Queue C → Bool
 has_room q = nat_lt q.count (length (slice q))
