@@ -2,7 +2,7 @@
 use Rattle.std.proofs.Common.{◌≡◌, ℕ, ◌-◌, ◌<◌, ◌≤◌, min, Bool, cond, [], map, length, take, sym, refl, ap, ◌∙◌, inl, inr, arith, length-set}
 use native.Mathlib.Decide.{ℕ_discrete}
 use Rattle.std.proofs.lemmas.List.{get_or-set_same, get_or-set_other}
-use Rattle.theory.specs.Books.{with_equation as equation-more}
+use Rattle.theory.specs.Books.{with_equation as equation_more}
 use Rattle.theory.proofs.Books.{same_state}
 use Rattle.book.specs.declared.row.Row.{Row}
 use Rattle.book.specs.Rows.{absent, row, class, trimmed, with_class, with_choice, with_equation, stored}
@@ -53,9 +53,9 @@ module _ (s t : Contents) (K : Sound s) (a b : ℕ) (E : Equated s t a b) (space
       ap (λ (k : ℕ). map f (take k t.rows)) e
       ∙ same_column f s.rows t.rows n l (omega (arith, long)) (λ i q. field f g h i)
 
-  pub equated_state : state_of t ≡ equation-more (state_of s) a b (state_of t).classes
+  pub equated_state : state_of t ≡ equation_more (state_of s) a b (state_of t).classes
   equated_state =
-      same_state (state_of t) (equation-more (state_of s) a b (state_of t).classes)
+      same_state (state_of t) (equation_more (state_of s) a b (state_of t).classes)
       (column_same (λ (r : Row). trimmed r.name) (λ r c. refl) (λ r. refl) s.names t.names E.names K.names_fit.0)
       (column_same (λ (r : Row). entry_of r.node) (λ r c. refl) (λ r. refl) s.nodes t.nodes E.nodes K.nodes_fit.0)
       (ap (λ (k : ℕ). map (λ (r : Row). (r.equation.left, r.equation.right)) (take k t.rows)) E.equations

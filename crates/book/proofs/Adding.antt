@@ -149,9 +149,9 @@ module _ (s : Contents) (K : Sound s) (x : Node) (tx : TidyNode s.nodes x) (kx :
   ps : NodePairs
   ps = pairs_in s.rows s.equations
 
-  builds-old : (i : ℕ) → i < s.nodes → build_at t₀ i ≡ build_at t₁ i
+  builds_old : (i : ℕ) → i < s.nodes → build_at t₀ i ≡ build_at t₁ i
   unfolding t₀ t₁ ws
-  builds-old =
+  builds_old =
       let f = K.nodes_fit.0 in
       let z₀ = table_long bare s.rows s.nodes f in
       let z₁ = table_long bare ws (s.nodes + 1) fit_ws in
@@ -167,7 +167,7 @@ module _ (s : Contents) (K : Sound s) (x : Node) (tx : TidyNode s.nodes x) (kx :
       let f = pairs_of s.rows s.equations e K.equations_fit.0 m in
       let o = K.obeys f.0 f.1 in
       subst (λ (e : ℕ × ℕ). (build_at t₀ e.0 ≡ build_at t₁ e.0) × (build_at t₀ e.1 ≡ build_at t₁ e.1)) (sym f.2)
-      (builds-old (row s.rows f.0).equation.left o.0, builds-old (row s.rows f.0).equation.right o.1)
+      (builds_old (row s.rows f.0).equation.left o.0, builds_old (row s.rows f.0).equation.right o.1)
 
   -- with the new node in a class of its own
   start : Partway t₁ (class ws) ps
@@ -178,7 +178,7 @@ module _ (s : Contents) (K : Sound s) (x : Node) (tx : TidyNode s.nodes x) (kx :
       sound i j h l e = elim (last i s.nodes h) [
         | inl p ↦ elim (last j s.nodes l) [
           | inl q ↦
-              subst₂ (λ (u v : Build). Equal (equations t₁ ps) u v) (builds-old i p) (builds-old j q)
+              subst₂ (λ (u v : Build). Equal (equations t₁ ps) u v) (builds_old i p) (builds_old j q)
               (eq_agree t₀ t₁ ps side (K.follows i j p q (sym (class_ws i p) ∙ e ∙ class_ws j q)))
           | inr q ↦ absurd (omega (arith, class_ws i p, (K.based i p).0, ap (class ws) q, class_new))
         ]
@@ -314,22 +314,22 @@ module _ (s : Contents) (K : Sound s) (x : Node) (tx : TidyNode s.nodes x) (kx :
   abbrev Side : ℕ × ℕ → Type 0
   Side p = (p.0 < s.nodes + 1) × (p.1 < s.nodes + 1) × (class zs p.0 ≡ class zs p.1)
 
-  class-zs : (p : ℕ) → p < s.nodes → class zs p ≡ class s.rows p
-  class-zs p h = ap (λ (f : ℕ → ℕ). f p) same_class ∙ class_ys p h
+  class_zs : (p : ℕ) → p < s.nodes → class zs p ≡ class s.rows p
+  class_zs p h = ap (λ (f : ℕ → ℕ). f p) same_class ∙ class_ys p h
 
   obeys : Obeys zs (s.nodes + 1) s.equations
   obeys i h =
       let o = K.obeys i h in
       subst Side (sym (ap (λ (r : Row). (r.equation.left, r.equation.right)) (rest i)))
-      (omega (arith, o.0), omega (arith, o.1), class-zs (row s.rows i).equation.left o.0 ∙ o.2 ∙ sym (class-zs (row s.rows i).equation.right o.1))
+      (omega (arith, o.0), omega (arith, o.1), class_zs (row s.rows i).equation.left o.0 ∙ o.2 ∙ sym (class_zs (row s.rows i).equation.right o.1))
 
-  ws-new : shape ws s.nodes ≡ shape_of bare x
+  ws_new : shape ws s.nodes ≡ shape_of bare x
   unfolding ws
-  ws-new = ap (λ (r : Row). shape_of bare r.node) (new s.rows s.nodes x fit)
+  ws_new = ap (λ (r : Row). shape_of bare r.node) (new s.rows s.nodes x fit)
 
-  ws-old : (i : ℕ) → i < s.nodes → shape ws i ≡ shape s.rows i
+  ws_old : (i : ℕ) → i < s.nodes → shape ws i ≡ shape s.rows i
   unfolding ws
-  ws-old i h = ap (λ (r : Row). shape_of bare r.node) (old s.rows s.nodes x fit i (omega arith))
+  ws_old i h = ap (λ (r : Row). shape_of bare r.node) (old s.rows s.nodes x fit i (omega arith))
 
   clash : (i : ℕ) → i < s.nodes → shape s.rows i ≡ shape_of bare x → ⊥
   clash i h e =
@@ -339,11 +339,11 @@ module _ (s : Contents) (K : Sound s) (x : Node) (tx : TidyNode s.nodes x) (kx :
   distinct : Distinct zs (s.nodes + 1)
   distinct i j h l e = elim (last i s.nodes h) [
     | inl p ↦ elim (last j s.nodes l) [
-      | inl q ↦ K.distinct i j p q (sym (ws-old i p) ∙ d ∙ ws-old j q)
-      | inr q ↦ absurd (clash i p (sym (ws-old i p) ∙ d ∙ ap (shape ws) q ∙ ws-new))
+      | inl q ↦ K.distinct i j p q (sym (ws_old i p) ∙ d ∙ ws_old j q)
+      | inr q ↦ absurd (clash i p (sym (ws_old i p) ∙ d ∙ ap (shape ws) q ∙ ws_new))
     ]
     | inr p ↦ elim (last j s.nodes l) [
-      | inl q ↦ absurd (clash j q (sym (ws-old j q) ∙ sym d ∙ ap (shape ws) p ∙ ws-new))
+      | inl q ↦ absurd (clash j q (sym (ws_old j q) ∙ sym d ∙ ap (shape ws) p ∙ ws_new))
       | inr q ↦ p ∙ sym q
     ]
   ]

@@ -6,7 +6,7 @@ use Rattle.theory.specs.Names.{Name, IsName}
 use Rattle.theory.specs.Builds.{Build}
 use Rattle.theory.specs.Equality.{Equal, same}
 use Rattle.theory.specs.Tables.{Shape, atom, unary, binary, Closed, shape_at, map_parts, equations}
-use Rattle.theory.specs.Books.{Parts, symbol, Book, Lowest, table as table_of, build, name_at, node_at, class as class-at}
+use Rattle.theory.specs.Books.{Parts, symbol, Book, Lowest, table as table_of, build, name_at, node_at, class as class_at}
 use Rattle.theory.proofs.Books.{table_length}
 use Rattle.theory.proofs.Grammar.{completeness}
 use Rattle.book.specs.declared.row.Row.{Row}
@@ -156,11 +156,11 @@ module _ (s : Contents) (K : Sound s) (i : ℕ) (h : i < room s) where
       ))
   no_choice l false = refl
 
-  laid_node_at : (row s.rows i).node ≡ laid_node (node_at (state_of s) i) (class-at (state_of s) i) (get_or (map suc (state_of s).choices) i 0)
+  laid_node_at : (row s.rows i).node ≡ laid_node (node_at (state_of s) i) (class_at (state_of s) i) (get_or (map suc (state_of s).choices) i 0)
   laid_node_at = go (either i s.nodes)
     where
       go : (i < s.nodes) ⊎ (s.nodes ≤ i)
-          → (row s.rows i).node ≡ laid_node (node_at (state_of s) i) (class-at (state_of s) i) (get_or (map suc (state_of s).choices) i 0)
+          → (row s.rows i).node ≡ laid_node (node_at (state_of s) i) (class_at (state_of s) i) (get_or (map suc (state_of s).choices) i 0)
       go (inl l) =
           let x = (row s.rows i).node in
           let T = K.tidy i l in

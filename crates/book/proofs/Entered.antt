@@ -1,6 +1,6 @@
 -- A node more in the rows is a node more in the state.
 use Rattle.std.proofs.Common.{◌≡◌, ℕ, ◌-◌, ◌<◌, ◌≤◌, min, Bool, cond, [], ◌∷◌, ◌++◌, map, length, take, sym, refl, ap, ◌∙◌, inl, inr, arith}
-use Rattle.theory.specs.Books.{with_node as node-more}
+use Rattle.theory.specs.Books.{with_node as node_more}
 use Rattle.theory.proofs.Books.{same_state}
 use Rattle.book.specs.declared.row.Row.{Row}
 use Rattle.book.specs.declared.row.Node.{Node}
@@ -40,9 +40,9 @@ module _ (s t : Contents) (K : Sound s) (symbol : ℕ) (parts : Parts) (A : Adde
       ap (λ (k : ℕ). map f (take k t.rows)) A.nodes
       ∙ more_column f s.rows t.rows s.nodes a (omega arith) (omega (arith, A.long)) (λ i q. ap f (A.within i q) ∙ g (row s.rows i) 0) e
 
-  pub added_state : state_of t ≡ node-more (state_of s) (asked symbol parts) (class t.rows s.nodes)
+  pub added_state : state_of t ≡ node_more (state_of s) (asked symbol parts) (class t.rows s.nodes)
   added_state =
-      same_state (state_of t) (node-more (state_of s) (asked symbol parts) (class t.rows s.nodes))
+      same_state (state_of t) (node_more (state_of s) (asked symbol parts) (class t.rows s.nodes))
       (column_same (λ (r : Row). trimmed r.name) (λ r c. refl) (λ r x. refl) s.names t.names A.names K.names_fit.0)
       (column_more (λ (r : Row). entry_of r.node) (λ r c. refl) (asked symbol parts)
       (ap (λ (r : Row). entry_of r.node) A.new ∙ new_entry symbol (class t.rows s.nodes) parts))

@@ -68,16 +68,16 @@ pub same_pairs : (xs ys : List Row) (n : ℕ) → n ≤ length xs → n ≤ leng
 same_pairs xs ys n h k f = same_column (λ (r : Row). (r.equation.left, r.equation.right)) xs ys n h k f
 
 -- tables that say the same of the nodes below n give them the same builds
-module _ (t u : Table) (n : ℕ) (lt : n ≤ length t) (lu : n ≤ length u) (low-t : (i : ℕ) → i < length t → EachPart (λ p. p < i) (shape_at t i))
-    (low-u : (i : ℕ) → i < length u → EachPart (λ p. p < i) (shape_at u i)) (e : (i : ℕ) → i < n → shape_at t i ≡ shape_at u i) where
+module _ (t u : Table) (n : ℕ) (lt : n ≤ length t) (lu : n ≤ length u) (low_t : (i : ℕ) → i < length t → EachPart (λ p. p < i) (shape_at t i))
+    (low_u : (i : ℕ) → i < length u → EachPart (λ p. p < i) (shape_at u i)) (e : (i : ℕ) → i < n → shape_at t i ≡ shape_at u i) where
   agree_from : (f i : ℕ) → i < f → i < n → build_at t i ≡ build_at u i
   agree_from zero i l h = absurd (not-suc-le-zero l)
   agree_from (suc f) i l h =
-      build_step t i (omega arith) (low-t i (omega arith))
+      build_step t i (omega arith) (low_t i (omega arith))
       ∙ build_over_same (build_at t) (build_at u) (shape_at t i)
-      (each_map (λ p. p < i) (λ p. build_at t p ≡ build_at u p) (λ p m. agree_from f p (omega arith) (omega arith)) (shape_at t i) (low-t i (omega arith)))
+      (each_map (λ p. p < i) (λ p. build_at t p ≡ build_at u p) (λ p m. agree_from f p (omega arith) (omega arith)) (shape_at t i) (low_t i (omega arith)))
       ∙ ap (build_over (build_at u)) (e i h)
-      ∙ sym (build_step u i (omega arith) (low-u i (omega arith)))
+      ∙ sym (build_step u i (omega arith) (low_u i (omega arith)))
 
   pub builds_agree : (i : ℕ) → i < n → build_at t i ≡ build_at u i
   builds_agree i h = agree_from (suc i) i (omega arith) h

@@ -3,7 +3,7 @@ use Rattle.std.proofs.Common.{◌≡◌, ℕ, zero, suc, ◌<◌, List, [], leng
 use Rattle.std.proofs.lemmas.List.{ext_get_or}
 use Rattle.theory.specs.Names.{Name}
 use Rattle.theory.specs.Tables.{atom, Table, Closed}
-use Rattle.theory.specs.Books.{Parts, symbol, shape, table as table_of, name_at, node_at, class as class-at}
+use Rattle.theory.specs.Books.{Parts, symbol, shape, table as table_of, name_at, node_at, class as class_at}
 use Rattle.theory.proofs.Books.{table_length, shape_is}
 use Rattle.book.specs.declared.row.Row.{Row}
 use Rattle.book.specs.declared.row.Node.{Node}
@@ -52,7 +52,7 @@ module _ (s : Contents) (K : Sound s) where
   pub node_is : (i : ℕ) → i < s.nodes → node_at (state_of s) i ≡ entry_of (row s.rows i).node
   node_is i h = column_at (λ (r : Row). entry_of r.node) s.rows s.nodes i _ K.nodes_fit.0 h
 
-  pub class_is : (i : ℕ) → i < s.nodes → class-at (state_of s) i ≡ class s.rows i
+  pub class_is : (i : ℕ) → i < s.nodes → class_at (state_of s) i ≡ class s.rows i
   class_is i h = column_at (λ (r : Row). r.node.class) s.rows s.nodes i 0 K.nodes_fit.0 h
 
   table_is : table_of (state_of s) ≡ table (name_of s.rows) s.rows s.nodes

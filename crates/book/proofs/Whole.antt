@@ -74,32 +74,32 @@ module _ (s : Contents) (k : ∥ Sound s ∥₁) where
       (∥∥₁_map k (λ (K : Sound s). K.follows i j h l e))
 
   -- field by field
-  node-field : (f : Node → ℕ) (i : ℕ) → i < length s.rows → i < 1024 → s.nodes ≤ i → f (row s.rows i).node ≡ f no_node
-  node-field f i h l q = ∥∥₁_elim k (ℕ_set _ _) (λ (K : Sound s). ap f ((K.blank i h l).1 q))
+  node_field : (f : Node → ℕ) (i : ℕ) → i < length s.rows → i < 1024 → s.nodes ≤ i → f (row s.rows i).node ≡ f no_node
+  node_field f i h l q = ∥∥₁_elim k (ℕ_set _ _) (λ (K : Sound s). ap f ((K.blank i h l).1 q))
 
-  blank-node : (i : ℕ) → i < length s.rows → i < 1024 → s.nodes ≤ i → (row s.rows i).node ≡ no_node
-  blank-node i h l q =
+  blank_node : (i : ℕ) → i < length s.rows → i < 1024 → s.nodes ≤ i → (row s.rows i).node ≡ no_node
+  blank_node i h l q =
       λ j. record {
-        symbol = node-field (λ x. x.symbol) i h l q j;
-        parts = node-field (λ x. x.parts) i h l q j;
-        left = node-field (λ x. x.left) i h l q j;
-        right = node-field (λ x. x.right) i h l q j;
-        class = node-field (λ x. x.class) i h l q j;
-        choice = node-field (λ x. x.choice) i h l q j;
+        symbol = node_field (λ x. x.symbol) i h l q j;
+        parts = node_field (λ x. x.parts) i h l q j;
+        left = node_field (λ x. x.left) i h l q j;
+        right = node_field (λ x. x.right) i h l q j;
+        class = node_field (λ x. x.class) i h l q j;
+        choice = node_field (λ x. x.choice) i h l q j;
       }
 
-  equation-field : (f : Equation → ℕ) (i : ℕ) → i < length s.rows → i < 1024 → s.equations ≤ i → f (row s.rows i).equation ≡ f no_equation
-  equation-field f i h l q = ∥∥₁_elim k (ℕ_set _ _) (λ (K : Sound s). ap f ((K.blank i h l).2 q))
+  equation_field : (f : Equation → ℕ) (i : ℕ) → i < length s.rows → i < 1024 → s.equations ≤ i → f (row s.rows i).equation ≡ f no_equation
+  equation_field f i h l q = ∥∥₁_elim k (ℕ_set _ _) (λ (K : Sound s). ap f ((K.blank i h l).2 q))
 
-  blank-equation : (i : ℕ) → i < length s.rows → i < 1024 → s.equations ≤ i → (row s.rows i).equation ≡ no_equation
-  blank-equation i h l q =
-      λ j. record { left = equation-field (λ x. x.left) i h l q j; right = equation-field (λ x. x.right) i h l q j }
+  blank_equation : (i : ℕ) → i < length s.rows → i < 1024 → s.equations ≤ i → (row s.rows i).equation ≡ no_equation
+  blank_equation i h l q =
+      λ j. record { left = equation_field (λ x. x.left) i h l q j; right = equation_field (λ x. x.right) i h l q j }
 
   blank : Blank s.rows s.names s.nodes s.equations
   blank i h l = (
     λ q. ∥∥₁_elim k (is_set ℕ_set _ _) (λ (K : Sound s). (K.blank i h l).0 q),
-    blank-node i h l,
-    blank-equation i h l,
+    blank_node i h l,
+    blank_equation i h l,
   )
 
   whole : Sound s

@@ -26,9 +26,9 @@ pub record TooLong (source : Source) (f : Fault) : Type 0 where
 abbrev pub refusal_in : Fault → Refusal
 refusal_in f = record { layer = f.layer; place = f.place }
 
-pub record Told (source : Source) (line-number : ℕ) (Cond : Layer → ℕ → Type 0) (f : Fault) : Type 0 where
+pub record Told (source : Source) (line_number : ℕ) (Cond : Layer → ℕ → Type 0) (f : Fault) : Type 0 where
   pub of : f.source ≡ source
-  pub line : f.line ≡ line-number
+  pub line : f.line ≡ line_number
   pub first : FirstBreak Cond (refusal_in f)
   pub number : f.number ≡ number_of f.layer
 

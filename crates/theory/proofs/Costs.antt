@@ -8,7 +8,7 @@ use Rattle.theory.specs.Tables.{Shape, atom, unary, binary, Table, NodePairs, Cl
 use Rattle.theory.specs.Costs.{Rule, RuleLaws, Settled, AtMost, cost_of, cost_over, spell, spelled}
 use Rattle.theory.specs.Statements.{Spells, CheapestAt}
 use Rattle.theory.proofs.Tables.{each_both}
-use Rattle.theory.proofs.Grammar.{parts_in, generated-equal, equal-generated, completeness}
+use Rattle.theory.proofs.Grammar.{parts_in, generated_equal, equal_generated, completeness}
 
 -- in a total order, to be no dearer is transitive
 pub ties_of : {C : Type 0} (rule : Rule C) → ((a b c : C) → rule.below a b ≡ true → rule.below b c ≡ true → rule.below a c ≡ true)
@@ -108,7 +108,7 @@ module _ {C : Type 0} (rule : Rule C) (laws : RuleLaws rule) where
             ((choice (class i), p, q, settled.node i h, settled.own i h, e, g.0.0, g.1.0), ap₂ (rule.cost_two s) g.0.1 g.1.1 ∙ sym a)
 
     equal : (i : ℕ) → i < length t → Equal (equations t es) (spelled t class choice rank i) (build_at t i)
-    equal i h = generated-equal t class es closed (spelled t class choice rank i) i h (spells_class (suc (rank (class i))) i h (omega arith)).0
+    equal i h = generated_equal t class es closed (spelled t class choice rank i) i h (spells_class (suc (rank (class i))) i h (omega arith)).0
 
     costs : (i : ℕ) → i < length t → cost_of rule (spelled t class choice rank i) ≡ cost (class i)
     costs i h = (spells_class (suc (rank (class i))) i h (omega arith)).1
@@ -119,7 +119,7 @@ module _ {C : Type 0} (rule : Rule C) (laws : RuleLaws rule) where
           equal = equal;
           costs = costs;
           least = λ i h u q.
-              subst (λ (a : C). AtMost rule a (cost_of rule u)) (sym (costs i h)) (bound u (class i) (equal-generated t class es closed u i h q));
+              subst (λ (a : C). AtMost rule a (cost_of rule u)) (sym (costs i h)) (bound u (class i) (equal_generated t class es closed u i h q));
           same_spelling = λ i j h l. (
             λ e. joined (turned (equal i h)) (subst (λ (b : Build). Equal (equations t es) b (build_at t j)) (sym e) (equal j l)),
             λ q. ap (λ (k : ℕ). spell t class choice (suc (rank k)) k) ((completeness t class es closed i j h l).0 q),

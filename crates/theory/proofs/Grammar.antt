@@ -96,32 +96,32 @@ module _ (t : Table) (class : ℕ → ℕ) (es : NodePairs) (closed : Closed t c
   node_of (one s u) j h f = at_node j (unary s f.0) (one s u) h f.1 (in_one f.2)
   node_of (two s u v) j h f = at_node j (binary s f.0 f.1) (two s u v) h f.2 (in_two f.3 f.4)
 
-  pub step-eq : (u : Build) (i : ℕ) → i < length t → Step u (class i) → Equal (equations t es) u (build_at t i)
-  step-eq u i h f = joined (node_of u f.0 f.1 f.3) (closed.sound f.0 i f.1 h f.2)
+  pub step_eq : (u : Build) (i : ℕ) → i < length t → Step u (class i) → Equal (equations t es) u (build_at t i)
+  step_eq u i h f = joined (node_of u f.0 f.1 f.3) (closed.sound f.0 i f.1 h f.2)
 
   pub step_of : (u : Build) (k : ℕ) → Generated t class u k → Step u k
   step_of (alone s) k a = a
   step_of (one s u) k a =
       let p = a.1 in
       let h = parts_in a.0 (unary s p) a.2 a.4 in
-      (a.0, a.2, a.3, (p, a.4, step-eq u p h (step_of u (class p) a.5)))
+      (a.0, a.2, a.3, (p, a.4, step_eq u p h (step_of u (class p) a.5)))
   step_of (two s u v) k a =
       let p = a.1 in
       let q = a.2 in
       let h = parts_in a.0 (binary s p q) a.3 a.5 in
-      (a.0, a.3, a.4, (p, q, a.5, step-eq u p h.0 (step_of u (class p) a.6), step-eq v q h.1 (step_of v (class q) a.7)))
+      (a.0, a.3, a.4, (p, q, a.5, step_eq u p h.0 (step_of u (class p) a.6), step_eq v q h.1 (step_of v (class q) a.7)))
 
-  pub generated-equal : (u : Build) (i : ℕ) → i < length t → Generated t class u (class i) → Equal (equations t es) u (build_at t i)
-  generated-equal u i h a = step-eq u i h (step_of u (class i) a)
+  pub generated_equal : (u : Build) (i : ℕ) → i < length t → Generated t class u (class i) → Equal (equations t es) u (build_at t i)
+  generated_equal u i h a = step_eq u i h (step_of u (class i) a)
 
-  pub equal-generated : (u : Build) (i : ℕ) → i < length t → Equal (equations t es) u (build_at t i) → Generated t class u (class i)
-  equal-generated u i h q = (carried q (class i)).1 (own i h)
+  pub equal_generated : (u : Build) (i : ℕ) → i < length t → Equal (equations t es) u (build_at t i) → Generated t class u (class i)
+  equal_generated u i h q = (carried q (class i)).1 (own i h)
 
   exact : (u : Build) (i : ℕ) → i < length t → Exact t class es u i
   exact u i h =
       record {
-        whole = (equal-generated u i h, generated-equal u i h);
-        step = (λ q. step_of u (class i) (equal-generated u i h q), step-eq u i h);
+        whole = (equal_generated u i h, generated_equal u i h);
+        step = (λ q. step_of u (class i) (equal_generated u i h q), step_eq u i h);
       }
 
 pub completeness : Completeness

@@ -12,21 +12,21 @@ use Rattle.theory.specs.Calls.{
   Sameness,
   Classing,
   Naming.ill_formed,
-  Naming.known as name-known,
-  Naming.full as names-full,
+  Naming.known as name_known,
+  Naming.full as names_full,
   Naming.new as new_name,
   Entering.no_symbol,
   Entering.no_part,
-  Entering.known as build-known,
-  Entering.full as nodes-full,
+  Entering.known as build_known,
+  Entering.full as nodes_full,
   Entering.new as new_node,
-  Equating.no_node as equating-no-node,
-  Equating.full as equations-full,
+  Equating.no_node as equating_no_node,
+  Equating.full as equations_full,
   Equating.accepted,
   Sameness.no_node as not_both,
-  Sameness.same as same-builds,
+  Sameness.same as same_builds,
   Sameness.different,
-  Classing.no_node as no-class,
+  Classing.no_node as no_class,
   Classing.classed as class_of,
 }
 use Rattle.theory.specs.Pinned.{SameEnd, Pinned}
@@ -34,20 +34,20 @@ use Rattle.theory.specs.Pinned.{SameEnd, Pinned}
 module _ (s : State) (B : Book s) where
   naming : (bs : Name) (w w' : Answer ℕ) (t t' : State) → Naming s bs w t → Naming s bs w' t' → SameEnd w t w' t'
   naming bs w w' t t' (ill_formed F1 a1 e1) (ill_formed F2 a2 e2) = (a1 ∙ sym a2, e1 ∙ sym e2)
-  naming bs w w' t t' (ill_formed F1 a1 e1) (name-known F2 k2 h2 n2 a2 e2) = absurd (F1 F2)
-  naming bs w w' t t' (ill_formed F1 a1 e1) (names-full F2 U2 r2 a2 e2) = absurd (F1 F2)
+  naming bs w w' t t' (ill_formed F1 a1 e1) (name_known F2 k2 h2 n2 a2 e2) = absurd (F1 F2)
+  naming bs w w' t t' (ill_formed F1 a1 e1) (names_full F2 U2 r2 a2 e2) = absurd (F1 F2)
   naming bs w w' t t' (ill_formed F1 a1 e1) (new_name F2 U2 r2 a2 e2) = absurd (F1 F2)
-  naming bs w w' t t' (name-known F1 k1 h1 n1 a1 e1) (ill_formed F2 a2 e2) = absurd (F2 F1)
-  naming bs w w' t t' (name-known F1 k1 h1 n1 a1 e1) (name-known F2 k2 h2 n2 a2 e2) = (a1 ∙ ap granted (B.names_apart k1 k2 h1 h2 (n1 ∙ sym n2)) ∙ sym a2, e1 ∙ sym e2)
-  naming bs w w' t t' (name-known F1 k1 h1 n1 a1 e1) (names-full F2 U2 r2 a2 e2) = absurd (U2 k1 h1 n1)
-  naming bs w w' t t' (name-known F1 k1 h1 n1 a1 e1) (new_name F2 U2 r2 a2 e2) = absurd (U2 k1 h1 n1)
-  naming bs w w' t t' (names-full F1 U1 r1 a1 e1) (ill_formed F2 a2 e2) = absurd (F2 F1)
-  naming bs w w' t t' (names-full F1 U1 r1 a1 e1) (name-known F2 k2 h2 n2 a2 e2) = absurd (U1 k2 h2 n2)
-  naming bs w w' t t' (names-full F1 U1 r1 a1 e1) (names-full F2 U2 r2 a2 e2) = (a1 ∙ sym a2, e1 ∙ sym e2)
-  naming bs w w' t t' (names-full F1 U1 r1 a1 e1) (new_name F2 U2 r2 a2 e2) = absurd (omega arith)
+  naming bs w w' t t' (name_known F1 k1 h1 n1 a1 e1) (ill_formed F2 a2 e2) = absurd (F2 F1)
+  naming bs w w' t t' (name_known F1 k1 h1 n1 a1 e1) (name_known F2 k2 h2 n2 a2 e2) = (a1 ∙ ap granted (B.names_apart k1 k2 h1 h2 (n1 ∙ sym n2)) ∙ sym a2, e1 ∙ sym e2)
+  naming bs w w' t t' (name_known F1 k1 h1 n1 a1 e1) (names_full F2 U2 r2 a2 e2) = absurd (U2 k1 h1 n1)
+  naming bs w w' t t' (name_known F1 k1 h1 n1 a1 e1) (new_name F2 U2 r2 a2 e2) = absurd (U2 k1 h1 n1)
+  naming bs w w' t t' (names_full F1 U1 r1 a1 e1) (ill_formed F2 a2 e2) = absurd (F2 F1)
+  naming bs w w' t t' (names_full F1 U1 r1 a1 e1) (name_known F2 k2 h2 n2 a2 e2) = absurd (U1 k2 h2 n2)
+  naming bs w w' t t' (names_full F1 U1 r1 a1 e1) (names_full F2 U2 r2 a2 e2) = (a1 ∙ sym a2, e1 ∙ sym e2)
+  naming bs w w' t t' (names_full F1 U1 r1 a1 e1) (new_name F2 U2 r2 a2 e2) = absurd (omega arith)
   naming bs w w' t t' (new_name F1 U1 r1 a1 e1) (ill_formed F2 a2 e2) = absurd (F2 F1)
-  naming bs w w' t t' (new_name F1 U1 r1 a1 e1) (name-known F2 k2 h2 n2 a2 e2) = absurd (U1 k2 h2 n2)
-  naming bs w w' t t' (new_name F1 U1 r1 a1 e1) (names-full F2 U2 r2 a2 e2) = absurd (omega arith)
+  naming bs w w' t t' (new_name F1 U1 r1 a1 e1) (name_known F2 k2 h2 n2 a2 e2) = absurd (U1 k2 h2 n2)
+  naming bs w w' t t' (new_name F1 U1 r1 a1 e1) (names_full F2 U2 r2 a2 e2) = absurd (omega arith)
   naming bs w w' t t' (new_name F1 U1 r1 a1 e1) (new_name F2 U2 r2 a2 e2) = (a1 ∙ sym a2, e1 ∙ sym e2)
 
   same_class : (x : Node) (k j : ℕ) → Book (with_node s x k) → Book (with_node s x j) → k ≡ j
@@ -63,32 +63,32 @@ module _ (s : State) (B : Book s) where
   entering : (x : Node) (w w' : Answer ℕ) (t t' : State) → Entering s x w t → Entering s x w' t' → SameEnd w t w' t'
   entering x w w' t t' (no_symbol m1 a1 e1) (no_symbol m2 a2 e2) = (a1 ∙ sym a2, e1 ∙ sym e2)
   entering x w w' t t' (no_symbol m1 a1 e1) (no_part g2 m2 a2 e2) = absurd (m1 g2)
-  entering x w w' t t' (no_symbol m1 a1 e1) (build-known P2 k2 h2 q2 a2 e2) = absurd (m1 P2.named)
-  entering x w w' t t' (no_symbol m1 a1 e1) (nodes-full P2 U2 r2 a2 e2) = absurd (m1 P2.named)
+  entering x w w' t t' (no_symbol m1 a1 e1) (build_known P2 k2 h2 q2 a2 e2) = absurd (m1 P2.named)
+  entering x w w' t t' (no_symbol m1 a1 e1) (nodes_full P2 U2 r2 a2 e2) = absurd (m1 P2.named)
   entering x w w' t t' (no_symbol m1 a1 e1) (new_node P2 U2 r2 a2 k2 e2 B2) = absurd (m1 P2.named)
   entering x w w' t t' (no_part g1 m1 a1 e1) (no_symbol m2 a2 e2) = absurd (m2 g1)
   entering x w w' t t' (no_part g1 m1 a1 e1) (no_part g2 m2 a2 e2) = (a1 ∙ sym a2, e1 ∙ sym e2)
-  entering x w w' t t' (no_part g1 m1 a1 e1) (build-known P2 k2 h2 q2 a2 e2) = absurd (m1 P2.parts)
-  entering x w w' t t' (no_part g1 m1 a1 e1) (nodes-full P2 U2 r2 a2 e2) = absurd (m1 P2.parts)
+  entering x w w' t t' (no_part g1 m1 a1 e1) (build_known P2 k2 h2 q2 a2 e2) = absurd (m1 P2.parts)
+  entering x w w' t t' (no_part g1 m1 a1 e1) (nodes_full P2 U2 r2 a2 e2) = absurd (m1 P2.parts)
   entering x w w' t t' (no_part g1 m1 a1 e1) (new_node P2 U2 r2 a2 k2 e2 B2) = absurd (m1 P2.parts)
-  entering x w w' t t' (build-known P1 k1 h1 q1 a1 e1) (no_symbol m2 a2 e2) = absurd (m2 P1.named)
-  entering x w w' t t' (build-known P1 k1 h1 q1 a1 e1) (no_part g2 m2 a2 e2) = absurd (m2 P1.parts)
-  entering x w w' t t' (build-known P1 k1 h1 q1 a1 e1) (build-known P2 k2 h2 q2 a2 e2) = (a1 ∙ ap granted (B.builds_apart k1 k2 h1 h2 (q1 ∙ sym q2)) ∙ sym a2, e1 ∙ sym e2)
-  entering x w w' t t' (build-known P1 k1 h1 q1 a1 e1) (nodes-full P2 U2 r2 a2 e2) = absurd (U2 k1 h1 q1)
-  entering x w w' t t' (build-known P1 k1 h1 q1 a1 e1) (new_node P2 U2 r2 a2 k2 e2 B2) = absurd (U2 k1 h1 q1)
-  entering x w w' t t' (nodes-full P1 U1 r1 a1 e1) (no_symbol m2 a2 e2) = absurd (m2 P1.named)
-  entering x w w' t t' (nodes-full P1 U1 r1 a1 e1) (no_part g2 m2 a2 e2) = absurd (m2 P1.parts)
-  entering x w w' t t' (nodes-full P1 U1 r1 a1 e1) (build-known P2 k2 h2 q2 a2 e2) = absurd (U1 k2 h2 q2)
-  entering x w w' t t' (nodes-full P1 U1 r1 a1 e1) (nodes-full P2 U2 r2 a2 e2) = (a1 ∙ sym a2, e1 ∙ sym e2)
-  entering x w w' t t' (nodes-full P1 U1 r1 a1 e1) (new_node P2 U2 r2 a2 k2 e2 B2) = absurd (omega arith)
+  entering x w w' t t' (build_known P1 k1 h1 q1 a1 e1) (no_symbol m2 a2 e2) = absurd (m2 P1.named)
+  entering x w w' t t' (build_known P1 k1 h1 q1 a1 e1) (no_part g2 m2 a2 e2) = absurd (m2 P1.parts)
+  entering x w w' t t' (build_known P1 k1 h1 q1 a1 e1) (build_known P2 k2 h2 q2 a2 e2) = (a1 ∙ ap granted (B.builds_apart k1 k2 h1 h2 (q1 ∙ sym q2)) ∙ sym a2, e1 ∙ sym e2)
+  entering x w w' t t' (build_known P1 k1 h1 q1 a1 e1) (nodes_full P2 U2 r2 a2 e2) = absurd (U2 k1 h1 q1)
+  entering x w w' t t' (build_known P1 k1 h1 q1 a1 e1) (new_node P2 U2 r2 a2 k2 e2 B2) = absurd (U2 k1 h1 q1)
+  entering x w w' t t' (nodes_full P1 U1 r1 a1 e1) (no_symbol m2 a2 e2) = absurd (m2 P1.named)
+  entering x w w' t t' (nodes_full P1 U1 r1 a1 e1) (no_part g2 m2 a2 e2) = absurd (m2 P1.parts)
+  entering x w w' t t' (nodes_full P1 U1 r1 a1 e1) (build_known P2 k2 h2 q2 a2 e2) = absurd (U1 k2 h2 q2)
+  entering x w w' t t' (nodes_full P1 U1 r1 a1 e1) (nodes_full P2 U2 r2 a2 e2) = (a1 ∙ sym a2, e1 ∙ sym e2)
+  entering x w w' t t' (nodes_full P1 U1 r1 a1 e1) (new_node P2 U2 r2 a2 k2 e2 B2) = absurd (omega arith)
   entering x w w' t t' (new_node P1 U1 r1 a1 k1 e1 B1) (no_symbol m2 a2 e2) = absurd (m2 P1.named)
   entering x w w' t t' (new_node P1 U1 r1 a1 k1 e1 B1) (no_part g2 m2 a2 e2) = absurd (m2 P1.parts)
-  entering x w w' t t' (new_node P1 U1 r1 a1 k1 e1 B1) (build-known P2 k2 h2 q2 a2 e2) = absurd (U1 k2 h2 q2)
-  entering x w w' t t' (new_node P1 U1 r1 a1 k1 e1 B1) (nodes-full P2 U2 r2 a2 e2) = absurd (omega arith)
+  entering x w w' t t' (new_node P1 U1 r1 a1 k1 e1 B1) (build_known P2 k2 h2 q2 a2 e2) = absurd (U1 k2 h2 q2)
+  entering x w w' t t' (new_node P1 U1 r1 a1 k1 e1 B1) (nodes_full P2 U2 r2 a2 e2) = absurd (omega arith)
   entering x w w' t t' (new_node P1 U1 r1 a1 k1 e1 B1) (new_node P2 U2 r2 a2 k2 e2 B2) = (a1 ∙ sym a2, e1 ∙ ap (with_node s x) (same_class x k1 k2 (subst Book e1 B1) (subst Book e2 B2)) ∙ sym e2)
 
-  same-classes : (a b : ℕ) (ks js : List ℕ) → Book (with_equation s a b ks) → Book (with_equation s a b js) → ks ≡ js
-  same-classes a b ks js K J = ext_get_or 0 ks js (K.classed ∙ sym J.classed) at
+  same_classes : (a b : ℕ) (ks js : List ℕ) → Book (with_equation s a b ks) → Book (with_equation s a b js) → ks ≡ js
+  same_classes a b ks js K J = ext_get_or 0 ks js (K.classed ∙ sym J.classed) at
     where
       at : (i : ℕ) → i < length ks → get_or ks i 0 ≡ get_or js i 0
       at i h =
@@ -98,31 +98,31 @@ module _ (s : State) (B : Book s) where
           omega (arith, L.low (get_or js i 0) M.here M.alike, M.low (get_or ks i 0) L.here L.alike)
 
   equating : (a b : ℕ) (w w' : Answer ℕ) (t t' : State) → Equating s a b w t → Equating s a b w' t' → SameEnd w t w' t'
-  equating a b w w' t t' (equating-no-node m1 a1 e1) (equating-no-node m2 a2 e2) = (a1 ∙ sym a2, e1 ∙ sym e2)
-  equating a b w w' t t' (equating-no-node m1 a1 e1) (equations-full h2 r2 a2 e2) = absurd (m1 h2)
-  equating a b w w' t t' (equating-no-node m1 a1 e1) (accepted h2 r2 a2 ks2 e2 B2) = absurd (m1 h2)
-  equating a b w w' t t' (equations-full h1 r1 a1 e1) (equating-no-node m2 a2 e2) = absurd (m2 h1)
-  equating a b w w' t t' (equations-full h1 r1 a1 e1) (equations-full h2 r2 a2 e2) = (a1 ∙ sym a2, e1 ∙ sym e2)
-  equating a b w w' t t' (equations-full h1 r1 a1 e1) (accepted h2 r2 a2 ks2 e2 B2) = absurd (omega arith)
-  equating a b w w' t t' (accepted h1 r1 a1 ks1 e1 B1) (equating-no-node m2 a2 e2) = absurd (m2 h1)
-  equating a b w w' t t' (accepted h1 r1 a1 ks1 e1 B1) (equations-full h2 r2 a2 e2) = absurd (omega arith)
-  equating a b w w' t t' (accepted h1 r1 a1 ks1 e1 B1) (accepted h2 r2 a2 ks2 e2 B2) = (a1 ∙ sym a2, e1 ∙ ap (with_equation s a b) (same-classes a b ks1 ks2 (subst Book e1 B1) (subst Book e2 B2)) ∙ sym e2)
+  equating a b w w' t t' (equating_no_node m1 a1 e1) (equating_no_node m2 a2 e2) = (a1 ∙ sym a2, e1 ∙ sym e2)
+  equating a b w w' t t' (equating_no_node m1 a1 e1) (equations_full h2 r2 a2 e2) = absurd (m1 h2)
+  equating a b w w' t t' (equating_no_node m1 a1 e1) (accepted h2 r2 a2 ks2 e2 B2) = absurd (m1 h2)
+  equating a b w w' t t' (equations_full h1 r1 a1 e1) (equating_no_node m2 a2 e2) = absurd (m2 h1)
+  equating a b w w' t t' (equations_full h1 r1 a1 e1) (equations_full h2 r2 a2 e2) = (a1 ∙ sym a2, e1 ∙ sym e2)
+  equating a b w w' t t' (equations_full h1 r1 a1 e1) (accepted h2 r2 a2 ks2 e2 B2) = absurd (omega arith)
+  equating a b w w' t t' (accepted h1 r1 a1 ks1 e1 B1) (equating_no_node m2 a2 e2) = absurd (m2 h1)
+  equating a b w w' t t' (accepted h1 r1 a1 ks1 e1 B1) (equations_full h2 r2 a2 e2) = absurd (omega arith)
+  equating a b w w' t t' (accepted h1 r1 a1 ks1 e1 B1) (accepted h2 r2 a2 ks2 e2 B2) = (a1 ∙ sym a2, e1 ∙ ap (with_equation s a b) (same_classes a b ks1 ks2 (subst Book e1 B1) (subst Book e2 B2)) ∙ sym e2)
 
   sameness : (a b : ℕ) (w w' : Answer Bool) (t t' : State) → Sameness s a b w t → Sameness s a b w' t' → SameEnd w t w' t'
   sameness a b w w' t t' (not_both m1 a1 e1) (not_both m2 a2 e2) = (a1 ∙ sym a2, e1 ∙ sym e2)
-  sameness a b w w' t t' (not_both m1 a1 e1) (same-builds h2 q2 a2 e2) = absurd (m1 h2)
+  sameness a b w w' t t' (not_both m1 a1 e1) (same_builds h2 q2 a2 e2) = absurd (m1 h2)
   sameness a b w w' t t' (not_both m1 a1 e1) (different h2 q2 a2 e2) = absurd (m1 h2)
-  sameness a b w w' t t' (same-builds h1 q1 a1 e1) (not_both m2 a2 e2) = absurd (m2 h1)
-  sameness a b w w' t t' (same-builds h1 q1 a1 e1) (same-builds h2 q2 a2 e2) = (a1 ∙ sym a2, e1 ∙ sym e2)
-  sameness a b w w' t t' (same-builds h1 q1 a1 e1) (different h2 q2 a2 e2) = absurd (q2 q1)
+  sameness a b w w' t t' (same_builds h1 q1 a1 e1) (not_both m2 a2 e2) = absurd (m2 h1)
+  sameness a b w w' t t' (same_builds h1 q1 a1 e1) (same_builds h2 q2 a2 e2) = (a1 ∙ sym a2, e1 ∙ sym e2)
+  sameness a b w w' t t' (same_builds h1 q1 a1 e1) (different h2 q2 a2 e2) = absurd (q2 q1)
   sameness a b w w' t t' (different h1 q1 a1 e1) (not_both m2 a2 e2) = absurd (m2 h1)
-  sameness a b w w' t t' (different h1 q1 a1 e1) (same-builds h2 q2 a2 e2) = absurd (q1 q2)
+  sameness a b w w' t t' (different h1 q1 a1 e1) (same_builds h2 q2 a2 e2) = absurd (q1 q2)
   sameness a b w w' t t' (different h1 q1 a1 e1) (different h2 q2 a2 e2) = (a1 ∙ sym a2, e1 ∙ sym e2)
 
   classing : (n : ℕ) (w w' : Answer ℕ) (t t' : State) → Classing s n w t → Classing s n w' t' → SameEnd w t w' t'
-  classing n w w' t t' (no-class m1 a1 e1) (no-class m2 a2 e2) = (a1 ∙ sym a2, e1 ∙ sym e2)
-  classing n w w' t t' (no-class m1 a1 e1) (class_of h2 k2 L2 a2 e2) = absurd (m1 h2)
-  classing n w w' t t' (class_of h1 k1 L1 a1 e1) (no-class m2 a2 e2) = absurd (m2 h1)
+  classing n w w' t t' (no_class m1 a1 e1) (no_class m2 a2 e2) = (a1 ∙ sym a2, e1 ∙ sym e2)
+  classing n w w' t t' (no_class m1 a1 e1) (class_of h2 k2 L2 a2 e2) = absurd (m1 h2)
+  classing n w w' t t' (class_of h1 k1 L1 a1 e1) (no_class m2 a2 e2) = absurd (m2 h1)
   classing n w w' t t' (class_of h1 k1 L1 a1 e1) (class_of h2 k2 L2 a2 e2) =
       let q : k1 ≡ k2 = omega (arith, L1.low k2 L2.here L2.alike, L2.low k1 L1.here L1.alike) in
       (a1 ∙ ap granted q ∙ sym a2, e1 ∙ sym e2)

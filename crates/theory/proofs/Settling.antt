@@ -85,10 +85,10 @@ module _ {C : Type 0} (rule : Rule C) (laws : RuleLaws rule) (t : Table) (class 
     (done : ℕ → Bool) (choice rank : ℕ → ℕ) (cost : ℕ → C) (now : ℕ) (lower : PartsFirst t)
     (underway : Underway rule t class done choice rank cost now) (m : ℕ) (next : Next rule t class done cost m)
     (done' : ℕ → Bool) (choice' rank' : ℕ → ℕ) (cost' : ℕ → C)
-    (done_set : SetAt done done' (class m) true) (choice_set : SetAt choice choice' (class m) m) (rank-set : SetAt rank rank' (class m) now)
+    (done_set : SetAt done done' (class m) true) (choice_set : SetAt choice choice' (class m) m) (rank_set : SetAt rank rank' (class m) now)
     (cost_set : SetAt cost cost' (class m) (cost_over rule (λ p. cost (class p)) (shape_at t m))) where
-  abbrev new-cost : C
-  new-cost = cost_over rule (λ p. cost (class p)) (shape_at t m)
+  abbrev new_cost : C
+  new_cost = cost_over rule (λ p. cost (class p)) (shape_at t m)
 
   abbrev Done : ℕ → Type 0
   Done p = done (class p) ≡ true
@@ -115,7 +115,7 @@ module _ {C : Type 0} (rule : Rule C) (laws : RuleLaws rule) (t : Table) (class 
     pub here : k ≡ class m
     pub choice_is : choice' k ≡ m
     pub rank_is : rank' k ≡ now
-    pub cost_is : cost' k ≡ new-cost
+    pub cost_is : cost' k ≡ new_cost
 
   abbrev DoneEither : ℕ → Type 0
   DoneEither k = DoneNow k ⊎ DoneBefore k
@@ -123,7 +123,7 @@ module _ {C : Type 0} (rule : Rule C) (laws : RuleLaws rule) (t : Table) (class 
   done_before : (k : ℕ) → done k ≡ true → DoneBefore k
   done_before k e =
       let n : k ≢ class m = λ f. clash e (ap done f ∙ next.open_yet) in
-      record { apart = n; done_is = e; choice_is = choice_set.other k n; rank_is = rank-set.other k n; cost_is = cost_set.other k n }
+      record { apart = n; done_is = e; choice_is = choice_set.other k n; rank_is = rank_set.other k n; cost_is = cost_set.other k n }
 
   when_done : (k : ℕ) → done' k ≡ true → DoneEither k
   when_done k e = go (ℕ_discrete k (class m))
@@ -133,7 +133,7 @@ module _ {C : Type 0} (rule : Rule C) (laws : RuleLaws rule) (t : Table) (class 
           inl (record {
             here = f;
             choice_is = ap choice' f ∙ choice_set.here;
-            rank_is = ap rank' f ∙ rank-set.here;
+            rank_is = ap rank' f ∙ rank_set.here;
             cost_is = ap cost' f ∙ cost_set.here;
           })
       go (no f) = inr (done_before k (sym (done_set.other k f) ∙ e))
@@ -189,8 +189,8 @@ module _ {C : Type 0} (rule : Rule C) (laws : RuleLaws rule) (t : Table) (class 
       ∙ ap (λ (n : ℕ). cost_over rule (λ p. cost' (class p)) (shape_at t n)) (sym s.choice_is)
 
   -- the new cost is the highest yet
-  peak : (i : ℕ) → i < length t → DoneEither (class i) → AtMost rule (cost' (class i)) new-cost
-  peak i h (inl s) = let e = laws.irreflexive new-cost in let f = s.cost_is in cc
+  peak : (i : ℕ) → i < length t → DoneEither (class i) → AtMost rule (cost' (class i)) new_cost
+  peak i h (inl s) = let e = laws.irreflexive new_cost in let f = s.cost_is in cc
   peak i h (inr s) = let e = underway.front i m h next.here s.done_is next.open_yet next.ready in let f = s.cost_is in cc
 
   ordered : (i j : ℕ) → i < length t → j < length t → DoneEither (class i) → DoneEither (class j) → rank' (class i) ≤ rank' (class j)
@@ -230,7 +230,7 @@ module _ {C : Type 0} (rule : Rule C) (laws : RuleLaws rule) (t : Table) (class 
 
   -- a node that could be chosen before the step costs no less than the new cost
   best_as : (j : ℕ) (x : Shape) → j < length t → done (class j) ≡ false → shape_at t j ≡ x → EachPart Done x
-      → AtMost rule new-cost (cost_over rule (λ p. cost' (class p)) x)
+      → AtMost rule new_cost (cost_over rule (λ p. cost' (class p)) x)
   best_as j x l o e d =
       let b = next.best j l o (subst (EachPart Done) (sym e) d) in
       let f = cost_same x d in
@@ -238,18 +238,18 @@ module _ {C : Type 0} (rule : Rule C) (laws : RuleLaws rule) (t : Table) (class 
 
   -- nor does one that can be chosen since
   rise : (j : ℕ) (x : Shape) → j < length t → done (class j) ≡ false → shape_at t j ≡ x → EachPart Done' x
-      → AtMost rule new-cost (cost_over rule (λ p. cost' (class p)) x)
+      → AtMost rule new_cost (cost_over rule (λ p. cost' (class p)) x)
   rise j (atom s) l o e d = best_as j (atom s) l o e tt
   rise j (unary s p) l o e d = go (when_done (class p) d)
     where
-      go : DoneEither (class p) → AtMost rule new-cost (rule.cost_one s (cost' (class p)))
-      go (inl v) = let w = laws.weight_one s new-cost in let f = v.cost_is in cc
+      go : DoneEither (class p) → AtMost rule new_cost (rule.cost_one s (cost' (class p)))
+      go (inl v) = let w = laws.weight_one s new_cost in let f = v.cost_is in cc
       go (inr v) = best_as j (unary s p) l o e v.done_is
   rise j (binary s p q) l o e d = go (when_done (class p) d.0) (when_done (class q) d.1)
     where
-      go : DoneEither (class p) → DoneEither (class q) → AtMost rule new-cost (rule.cost_two s (cost' (class p)) (cost' (class q)))
-      go (inl v) v' = let w = laws.weight_left s new-cost (cost' (class q)) in let f = v.cost_is in cc
-      go (inr v) (inl v') = let w = laws.weight_right s (cost' (class p)) new-cost in let f = v'.cost_is in cc
+      go : DoneEither (class p) → DoneEither (class q) → AtMost rule new_cost (rule.cost_two s (cost' (class p)) (cost' (class q)))
+      go (inl v) v' = let w = laws.weight_left s new_cost (cost' (class q)) in let f = v.cost_is in cc
+      go (inr v) (inl v') = let w = laws.weight_right s (cost' (class p)) new_cost in let f = v'.cost_is in cc
       go (inr v) (inr v') = best_as j (binary s p q) l o e (v.done_is, v'.done_is)
 
   step : Underway rule t class done' choice' rank' cost' (suc now)
@@ -263,7 +263,7 @@ module _ {C : Type 0} (rule : Rule C) (laws : RuleLaws rule) (t : Table) (class 
         ordered = λ i j h l e f r. ordered i j h l (when_done (class i) e) (when_done (class j) f) r;
         cheapest = λ i h e b. cheapest i h (when_done (class i) e) b;
         front = λ i j h l e o d.
-            at_most_trans rule laws (cost' (class i)) new-cost (cost_over rule (λ p. cost' (class p)) (shape_at t j))
+            at_most_trans rule laws (cost' (class i)) new_cost (cost_over rule (λ p. cost' (class p)) (shape_at t j))
             (peak i h (when_done (class i) e)) (rise j (shape_at t j) l (still_open (class j) o) refl d);
       }
 
