@@ -22,4 +22,5 @@ pub mod Entered
 pub mod Accepted
 pub mod Equals
 pub mod Made
+pub mod Repricing
 pub mod Pinning

@@ -1,13 +1,13 @@
 -- What the state of a sound book says, read off its rows.
-use Rattle.std.proofs.Common.{◌≡◌, ℕ, zero, suc, ◌<◌, List, [], length, get_or, sym, refl, ap, ◌∙◌, subst, arith}
+use Rattle.std.proofs.Common.{◌≡◌, ℕ, zero, suc, ◌-◌, ◌<◌, Bool, true, cond, List, [], map, length, get_or, take, sym, refl, ap, ◌∙◌, subst, arith}
 use Rattle.std.proofs.lemmas.List.{ext_get_or}
 use Rattle.theory.specs.Names.{Name}
-use Rattle.theory.specs.Tables.{atom, Table, Closed}
-use Rattle.theory.specs.Books.{Parts, symbol, shape, table as table_of, name_at, node_at, class as class_at}
-use Rattle.theory.proofs.Books.{table_length, shape_is}
+use Rattle.theory.specs.Tables.{atom, Table, shape_at, Closed}
+use Rattle.theory.specs.Books.{Parts, symbol, shape, table as table_of, name_at, node_at, class as class_at, choice}
+use Rattle.theory.proofs.Books.{table_length, shape_is as shape_named}
 use Rattle.book.specs.declared.row.Row.{Row}
 use Rattle.book.specs.declared.row.Node.{Node}
-use Rattle.book.specs.Rows.{row, class, shaped, table, trimmed, name_of, pairs_in, TidyNode}
+use Rattle.book.specs.Rows.{row, class, shaped, shape_of, table, trimmed, name_of, pairs_in, TidyNode}
 use Rattle.book.specs.Layout.{Contents, entry, entry_of, state_of}
 use Rattle.book.specs.Invariant.{Sound}
 use Rattle.book.proofs.Columns.{column_long, column_at}
@@ -55,19 +55,29 @@ module _ (s : Contents) (K : Sound s) where
   pub class_is : (i : ℕ) → i < s.nodes → class_at (state_of s) i ≡ class s.rows i
   class_is i h = column_at (λ (r : Row). r.node.class) s.rows s.nodes i 0 K.nodes_fit.0 h
 
-  table_is : table_of (state_of s) ≡ table (name_of s.rows) s.rows s.nodes
+  -- a row has one more than the choice
+  pub choice_is : s.priced ≡ true → (i : ℕ) → i < s.nodes → choice (state_of s) i ≡ (row s.rows i).node.choice - 1
+  choice_is e i h =
+      ap (λ (v : Bool). get_or (cond v (map (λ (r : Row). r.node.choice - 1) (take s.nodes s.rows)) []) i 0) e
+      ∙ column_at (λ (r : Row). r.node.choice - 1) s.rows s.nodes i 0 K.nodes_fit.0 h
+
+  pub shapes_long : length (table_of (state_of s)) ≡ s.nodes
+  shapes_long = table_length (state_of s) ∙ nodes_long
+
+  pub shape_is : (i : ℕ) → i < s.nodes → shape_at (table_of (state_of s)) i ≡ shape_of (name_of s.rows) (row s.rows i).node
+  shape_is i h =
+      let x = (row s.rows i).node in
+      shape_named (state_of s) i (omega (arith, nodes_long))
+      ∙ ap (shape (state_of s).names) (node_is i h)
+      ∙ entry_shape (state_of s).names (name_of s.rows) x.symbol x.parts x.left x.right (name_is x.symbol (K.known i h))
+
+  pub table_is : table_of (state_of s) ≡ table (name_of s.rows) s.rows s.nodes
   table_is =
       let nm = name_of s.rows in
-      let z = table_length (state_of s) in
-      let z₁ = table_long nm s.rows s.nodes K.nodes_fit.0 in
-      ext_get_or (atom []) (table_of (state_of s)) (table nm s.rows s.nodes) (z ∙ nodes_long ∙ sym z₁)
+      ext_get_or (atom []) (table_of (state_of s)) (table nm s.rows s.nodes) (shapes_long ∙ sym (table_long nm s.rows s.nodes K.nodes_fit.0))
       (λ i l.
-      let h : i < s.nodes = omega (arith, nodes_long) in
-      let x = (row s.rows i).node in
-      shape_is (state_of s) i (omega (arith, nodes_long))
-      ∙ ap (shape (state_of s).names) (node_is i h)
-      ∙ entry_shape (state_of s).names nm x.symbol x.parts x.left x.right (name_is x.symbol (K.known i h))
-      ∙ sym (table_at nm s.rows s.nodes i K.nodes_fit.0 h))
+      let h : i < s.nodes = omega (arith, shapes_long) in
+      shape_is i h ∙ sym (table_at nm s.rows s.nodes i K.nodes_fit.0 h))
 
   -- by names too the classes are those of equality
   pub closed_state : Closed (table_of (state_of s)) (class s.rows) (state_of s).equated

@@ -1,13 +1,14 @@
 -- What the calls on a book write: the rows and the counts after, from those before. Cited by the lemmas on each call.
 --
--- | word    | meaning                                                                         |
--- |---------|---------------------------------------------------------------------------------|
--- | Reset   | other classes, and no choices, in the rows below n                              |
--- | Equated | an equation is stored last, and a pricing in force ended                        |
--- | Added   | a node is stored last, and a pricing in force ended                             |
--- | Titled  | a name is stored last                                                           |
--- | Cleared | the rows below n hold nothing, and the others are as they were                  |
-use Rattle.std.specs.Prelude.{◌≡◌, ℕ, ◌+◌, ◌<◌, ◌≤◌, false, ◌≢◌, List, length, replicate}
+-- | word     | meaning                                                                         |
+-- |----------|---------------------------------------------------------------------------------|
+-- | Reset    | other classes, and no choices, in the rows below n                              |
+-- | Equated  | an equation is stored last, and a pricing in force ended                        |
+-- | Added    | a node is stored last, and a pricing in force ended                             |
+-- | Titled   | a name is stored last                                                           |
+-- | Cleared  | the rows below n hold nothing, and the others are as they were                  |
+-- | Repriced | the choices are stored, and the pricing comes into force                        |
+use Rattle.std.specs.Prelude.{◌≡◌, ℕ, ◌+◌, ◌<◌, ◌≤◌, true, false, ◌≢◌, List, length, replicate, slice_index}
 use Rattle.theory.specs.Names.{Name}
 use Rattle.book.specs.declared.row.Row.{Row}
 use Rattle.book.specs.declared.id.Parts.{Parts}
@@ -65,3 +66,13 @@ pub record Titled (s t : Contents) (bs : Name) : Type 0 where
   pub nodes : t.nodes ≡ s.nodes
   pub equations : t.equations ≡ s.equations
   pub priced : t.priced ≡ s.priced
+
+-- the choices are stored, each as 1 more than the node, and the pricing comes into force
+pub record Repriced (s t : Contents) (cs : List ℕ) : Type 0 where
+  pub long : length t.rows ≡ length s.rows
+  pub within : (i : ℕ) → i < s.nodes → row t.rows i ≡ with_choice (row s.rows i) (slice_index cs i + 1)
+  pub past : (i : ℕ) → s.nodes ≤ i → row t.rows i ≡ row s.rows i
+  pub names : t.names ≡ s.names
+  pub nodes : t.nodes ≡ s.nodes
+  pub equations : t.equations ≡ s.equations
+  pub priced : t.priced ≡ true

@@ -15,7 +15,7 @@ use text::cause::Layer;
 
 #[derive(Drop)]
 pub struct Book<'a> {
-    table: Table<'a>,
+    pub table: Table<'a>,
     ghost holds: { Holds table },
 }
 

@@ -12,4 +12,4 @@ mod making;
 mod naming;
 mod room;
 pub mod row;
-mod table;
+pub mod table;

@@ -32,13 +32,13 @@ parts_map P Q f (over k p) h = f p h
 parts_map P Q f (pair k p q) h = (f p h.0, f q h.1)
 
 module _ (s : State) (B : Book s) where
-  build_is : (i : ℕ) → IsNode s i → build s i ≡ node_build s (node_at s i)
+  pub build_is : (i : ℕ) → IsNode s i → build s i ≡ node_build s (node_at s i)
   build_is i h =
       build_step (table s) i (omega (arith, table_length s))
       (subst (EachPart (λ p. p < i)) (sym (shape_is s i h)) (each_of (λ p. p < i) s.names (node_at s i) (B.lower i h)))
       ∙ ap (build_over (build s)) (shape_is s i h)
 
-  proper_at : (i : ℕ) → IsNode s i → Proper s (node_at s i)
+  pub proper_at : (i : ℕ) → IsNode s i → Proper s (node_at s i)
   proper_at i h =
       record {
         named = B.symbols i h;

@@ -1,35 +1,19 @@
 -- The relations of the calls leave nothing open: two ways that a call can end with one book and the same arguments are one.
-use Rattle.std.proofs.Common.{◌≡◌, ℕ, ◌<◌, Bool, List, length, get_or, sym, ap, ◌∙◌, subst, arith}
+use Rattle.std.proofs.Common.{◌≡◌, ℕ, ◌<◌, Bool, List, ◌++◌, length, get_or, drop, sym, ap, ◌∙◌, subst, arith}
 use Rattle.std.proofs.lemmas.List.{length_push, get_or_push, ext_get_or}
+use Rattle.std.proofs.lemmas.Bool.{both_ways}
 use Rattle.theory.specs.Names.{Name}
-use Rattle.theory.specs.Books.{Node, State, Book, Lowest, IsNode, class, with_node, with_equation}
-use Rattle.theory.specs.Calls.{
-  Answer,
-  granted,
-  Naming,
-  Entering,
-  Equating,
-  Sameness,
-  Classing,
-  Naming.ill_formed,
-  Naming.known as name_known,
-  Naming.full as names_full,
-  Naming.new as new_name,
-  Entering.no_symbol,
-  Entering.no_part,
-  Entering.known as build_known,
-  Entering.full as nodes_full,
-  Entering.new as new_node,
-  Equating.no_node as equating_no_node,
-  Equating.full as equations_full,
-  Equating.accepted,
-  Sameness.no_node as not_both,
-  Sameness.same as same_builds,
-  Sameness.different,
-  Classing.no_node as no_class,
-  Classing.classed as class_of,
-}
-use Rattle.theory.specs.Pinned.{SameEnd, Pinned}
+use Rattle.theory.specs.Builds.{Build, text}
+use Rattle.theory.specs.Costs.{Cheaper, by_builds}
+use Rattle.theory.specs.Stages.{choice_in}
+use Rattle.theory.specs.Books.{Node, State, Book, Chosen, Lowest, IsNode, table, class, with_node, with_equation, with_choices}
+use Rattle.theory.specs.Calls.{Answer, granted, Naming, Entering, Equating, Sameness, Classing, Pricing, Spelling, Naming.ill_formed, Naming.known as name_known, Naming.full as names_full, Naming.new as new_name, Entering.no_symbol, Entering.no_part, Entering.known as build_known, Entering.full as nodes_full, Entering.new as new_node, Equating.no_node as equating_no_node, Equating.full as equations_full, Equating.accepted, Sameness.no_node as not_both, Sameness.same as same_builds, Sameness.different, Classing.no_node as no_class, Classing.classed as class_of, Pricing.short, Pricing.settled, Spelling.no_node as no-spelling, Spelling.unpriced, Spelling.too_long, Spelling.written, Listing, Listing.no_node as no-listing, Listing.short as marks-short, Listing.too_long as too_many, Listing.written as all_listed}
+use Rattle.theory.specs.Spelling.{Spelled}
+use Rattle.theory.specs.Productions.{Production}
+use Rattle.theory.specs.Pinned.{SameEnd, Pinned, PinnedLent}
+use Rattle.theory.proofs.Stages.{one_way}
+use Rattle.theory.proofs.Spelling.{spelled_once}
+use Rattle.theory.proofs.Listings.{listed_once}
 
 module _ (s : State) (B : Book s) where
   naming : (bs : Name) (w w' : Answer ℕ) (t t' : State) → Naming s bs w t → Naming s bs w' t' → SameEnd w t w' t'
@@ -127,6 +111,75 @@ module _ (s : State) (B : Book s) where
       let q : k1 ≡ k2 = omega (arith, L1.low k2 L2.here L2.alike, L2.low k1 L1.here L1.alike) in
       (a1 ∙ ap granted q ∙ sym a2, e1 ∙ sym e2)
 
+  same_choices : (cheaper : Cheaper) (cs ds : List ℕ) → Chosen s cheaper cs → Chosen s cheaper ds → cs ≡ ds
+  same_choices cheaper cs ds K L = ext_get_or 0 cs ds (K.long ∙ sym L.long) at
+    where
+      at : (i : ℕ) → i < length cs → get_or cs i 0 ≡ get_or ds i 0
+      at i h =
+          let l : i < length s.nodes = omega (arith, K.long) in
+          K.choices i l
+          ∙ ap (λ (ms : List ℕ). choice_in (class s) ms (class s i)) (one_way (by_builds cheaper) (table s) (class s) K.stages L.stages)
+          ∙ sym (L.choices i l)
+
+  pricing : (cheaper : Cheaper) (costs waiting : ℕ) (w w' : Answer (Unit {0})) (t t' : State)
+      → Pricing s cheaper costs waiting w t → Pricing s cheaper costs waiting w' t' → SameEnd w t w' t'
+  pricing cheaper costs waiting w w' t t' (short d1 a1 e1) (short d2 a2 e2) = (a1 ∙ sym a2, e1 ∙ sym e2)
+  pricing cheaper costs waiting w w' t t' (short d1 a1 e1) (settled l2 m2 a2 cs2 K2 e2) = absurd (omega arith)
+  pricing cheaper costs waiting w w' t t' (settled l1 m1 a1 cs1 K1 e1) (short d2 a2 e2) = absurd (omega arith)
+  pricing cheaper costs waiting w w' t t' (settled l1 m1 a1 cs1 K1 e1) (settled l2 m2 a2 cs2 K2 e2) =
+      (a1 ∙ sym a2, e1 ∙ ap (with_choices s) (same_choices cheaper cs1 cs2 K1 K2) ∙ sym e2)
+
+  same_length : (n : ℕ) (u v : Build) → Spelled s n u → Spelled s n v → length (text u) ≡ length (text v)
+  same_length n u v a b = ap (λ (w : Build). length (text w)) (spelled_once s u v n a b)
+
+  spelling : (n : ℕ) (before : List ℕ) (w w' : Answer ℕ) (after after' : List ℕ) (t t' : State)
+      → Spelling s n before w after t → Spelling s n before w' after' t' → SameEnd w t w' t' × (after ≡ after')
+  spelling n before w w' after after' t t' (no-spelling m1 a1 f1 e1) (no-spelling m2 a2 f2 e2) = ((a1 ∙ sym a2, e1 ∙ sym e2), f1 ∙ sym f2)
+  spelling n before w w' after after' t t' (no-spelling m1 a1 f1 e1) (unpriced h2 p2 a2 f2 e2) = absurd (m1 h2)
+  spelling n before w w' after after' t t' (no-spelling m1 a1 f1 e1) (too_long h2 p2 u2 S2 l2 a2 f2 e2) = absurd (m1 h2)
+  spelling n before w w' after after' t t' (no-spelling m1 a1 f1 e1) (written h2 p2 u2 S2 l2 a2 f2 e2) = absurd (m1 h2)
+  spelling n before w w' after after' t t' (unpriced h1 p1 a1 f1 e1) (no-spelling m2 a2 f2 e2) = absurd (m2 h1)
+  spelling n before w w' after after' t t' (unpriced h1 p1 a1 f1 e1) (unpriced h2 p2 a2 f2 e2) = ((a1 ∙ sym a2, e1 ∙ sym e2), f1 ∙ sym f2)
+  spelling n before w w' after after' t t' (unpriced h1 p1 a1 f1 e1) (too_long h2 p2 u2 S2 l2 a2 f2 e2) = absurd (both_ways s.priced p1 p2)
+  spelling n before w w' after after' t t' (unpriced h1 p1 a1 f1 e1) (written h2 p2 u2 S2 l2 a2 f2 e2) = absurd (both_ways s.priced p1 p2)
+  spelling n before w w' after after' t t' (too_long h1 p1 u1 S1 l1 a1 f1 e1) (no-spelling m2 a2 f2 e2) = absurd (m2 h1)
+  spelling n before w w' after after' t t' (too_long h1 p1 u1 S1 l1 a1 f1 e1) (unpriced h2 p2 a2 f2 e2) = absurd (both_ways s.priced p2 p1)
+  spelling n before w w' after after' t t' (too_long h1 p1 u1 S1 l1 a1 f1 e1) (too_long h2 p2 u2 S2 l2 a2 f2 e2) = ((a1 ∙ sym a2, e1 ∙ sym e2), f1 ∙ sym f2)
+  spelling n before w w' after after' t t' (too_long h1 p1 u1 S1 l1 a1 f1 e1) (written h2 p2 u2 S2 l2 a2 f2 e2) = absurd (omega (arith, same_length n u1 u2 S1 S2))
+  spelling n before w w' after after' t t' (written h1 p1 u1 S1 l1 a1 f1 e1) (no-spelling m2 a2 f2 e2) = absurd (m2 h1)
+  spelling n before w w' after after' t t' (written h1 p1 u1 S1 l1 a1 f1 e1) (unpriced h2 p2 a2 f2 e2) = absurd (both_ways s.priced p2 p1)
+  spelling n before w w' after after' t t' (written h1 p1 u1 S1 l1 a1 f1 e1) (too_long h2 p2 u2 S2 l2 a2 f2 e2) = absurd (omega (arith, same_length n u1 u2 S1 S2))
+  spelling n before w w' after after' t t' (written h1 p1 u1 S1 l1 a1 f1 e1) (written h2 p2 u2 S2 l2 a2 f2 e2) =
+      let q = spelled_once s u1 u2 n S1 S2 in (
+        (a1 ∙ ap (λ (u : Build). granted (length (text u))) q ∙ sym a2, e1 ∙ sym e2),
+        f1 ∙ ap (λ (u : Build). text u ++ drop (length (text u)) before) q ∙ sym f2,
+      )
+
+  listing : (n marking : ℕ) (before : List Production) (w w' : Answer ℕ) (after after' : List Production) (marks marks' : List ℕ) (t t' : State)
+      → Listing s n marking before w after marks t → Listing s n marking before w' after' marks' t'
+      → SameEnd w t w' t' × (after ≡ after') × (marks ≡ marks')
+  listing n marking before w w' after after' marks marks' t t' (no-listing m1 a1 f1 k1 e1) (no-listing m2 a2 f2 k2 e2) = ((a1 ∙ sym a2, e1 ∙ sym e2), f1 ∙ sym f2, k1 ∙ sym k2)
+  listing n marking before w w' after after' marks marks' t t' (no-listing m1 a1 f1 k1 e1) (marks-short h2 g2 a2 f2 k2 e2) = absurd (m1 h2)
+  listing n marking before w w' after after' marks marks' t t' (no-listing m1 a1 f1 k1 e1) (too_many h2 g2 ps2 L2 l2 a2 f2 k2 e2) = absurd (m1 h2)
+  listing n marking before w w' after after' marks marks' t t' (no-listing m1 a1 f1 k1 e1) (all_listed h2 g2 ps2 L2 l2 a2 f2 k2 e2) = absurd (m1 h2)
+  listing n marking before w w' after after' marks marks' t t' (marks-short h1 g1 a1 f1 k1 e1) (no-listing m2 a2 f2 k2 e2) = absurd (m2 h1)
+  listing n marking before w w' after after' marks marks' t t' (marks-short h1 g1 a1 f1 k1 e1) (marks-short h2 g2 a2 f2 k2 e2) = ((a1 ∙ sym a2, e1 ∙ sym e2), f1 ∙ sym f2, k1 ∙ sym k2)
+  listing n marking before w w' after after' marks marks' t t' (marks-short h1 g1 a1 f1 k1 e1) (too_many h2 g2 ps2 L2 l2 a2 f2 k2 e2) = absurd (omega arith)
+  listing n marking before w w' after after' marks marks' t t' (marks-short h1 g1 a1 f1 k1 e1) (all_listed h2 g2 ps2 L2 l2 a2 f2 k2 e2) = absurd (omega arith)
+  listing n marking before w w' after after' marks marks' t t' (too_many h1 g1 ps1 L1 l1 a1 f1 k1 e1) (no-listing m2 a2 f2 k2 e2) = absurd (m2 h1)
+  listing n marking before w w' after after' marks marks' t t' (too_many h1 g1 ps1 L1 l1 a1 f1 k1 e1) (marks-short h2 g2 a2 f2 k2 e2) = absurd (omega arith)
+  listing n marking before w w' after after' marks marks' t t' (too_many h1 g1 ps1 L1 l1 a1 f1 k1 e1) (too_many h2 g2 ps2 L2 l2 a2 f2 k2 e2) = ((a1 ∙ sym a2, e1 ∙ sym e2), f1 ∙ sym f2, k1 ∙ sym k2)
+  listing n marking before w w' after after' marks marks' t t' (too_many h1 g1 ps1 L1 l1 a1 f1 k1 e1) (all_listed h2 g2 ps2 L2 l2 a2 f2 k2 e2) = absurd (omega (arith, ap length (listed_once s n ps1 ps2 L1 L2)))
+  listing n marking before w w' after after' marks marks' t t' (all_listed h1 g1 ps1 L1 l1 a1 f1 k1 e1) (no-listing m2 a2 f2 k2 e2) = absurd (m2 h1)
+  listing n marking before w w' after after' marks marks' t t' (all_listed h1 g1 ps1 L1 l1 a1 f1 k1 e1) (marks-short h2 g2 a2 f2 k2 e2) = absurd (omega arith)
+  listing n marking before w w' after after' marks marks' t t' (all_listed h1 g1 ps1 L1 l1 a1 f1 k1 e1) (too_many h2 g2 ps2 L2 l2 a2 f2 k2 e2) = absurd (omega (arith, ap length (listed_once s n ps1 ps2 L1 L2)))
+  listing n marking before w w' after after' marks marks' t t' (all_listed h1 g1 ps1 L1 l1 a1 f1 k1 e1) (all_listed h2 g2 ps2 L2 l2 a2 f2 k2 e2) =
+      let q = listed_once s n ps1 ps2 L1 L2 in (
+        (a1 ∙ ap (λ (ps : List Production). granted (length ps)) q ∙ sym a2, e1 ∙ sym e2),
+        f1 ∙ ap (λ (ps : List Production). ps ++ drop (length ps) before) q ∙ sym f2,
+        k1 ∙ sym k2,
+      )
+
 pub pinned : Pinned
 pinned =
     record {
@@ -136,3 +189,6 @@ pinned =
       sameness = λ s B. sameness s B;
       classing = λ s B. classing s B;
     }
+
+pub pinned_lent : PinnedLent
+pinned_lent = record { pricing = λ s B. pricing s B; spelling = λ s B. spelling s B; listing = λ s B. listing s B }

@@ -11,15 +11,19 @@
 -- | equations_in | the equations of a book, between builds                                                        |
 -- | Alike        | two nodes' builds are equal by the book's equations                                            |
 -- | Lowest       | the lowest number of a node whose build is equal to that of another node                       |
+-- | Chosen       | the choices are those of the stages, by a rule that says which builds are cheaper              |
 -- | Book         | what is true of every book                                                                     |
 -- | fresh        | a book as it is made                                                                           |
--- | with-..      | a state with a name, a node or an equation more                                                |
-use Rattle.std.specs.Prelude.{◌≡◌, ℕ, ◌<◌, ◌≤◌, Bool, true, false, List, [], ◌∷◌, ◌++◌, map, length, slice_index, slice_index_or}
+-- | with-..      | a state with a name, a node or an equation more, or with a pricing in force                    |
+-- | symbol_of    | the symbol of a name, or else the number of names                                              |
+use Rattle.std.specs.Prelude.{◌≡◌, ℕ, suc, ◌<◌, ◌≤◌, Bool, true, false, cond, List, [], ◌∷◌, ◌++◌, map, length, ◌==◌, slice_index, slice_index_or}
 use mathlib.Core.List.{Memᴰ}
 use Rattle.theory.specs.Names.{Name, IsName}
 use Rattle.theory.specs.Builds.{Build}
 use Rattle.theory.specs.Equality.{Equation, Equal}
 use Rattle.theory.specs.Tables.{Shape, atom, unary, binary, Table, NodePairs, build_over, build_at, equations}
+use Rattle.theory.specs.Costs.{Cheaper, by_builds}
+use Rattle.theory.specs.Stages.{Stages, choice_in}
 
 -- a symbol alone, over one node, or over two nodes
 pub data Node : Type 0 where
@@ -95,6 +99,14 @@ pub record Lowest (s : State) (i k : ℕ) : Type 0 where
   pub alike : Alike s k i
   pub low : (j : ℕ) → IsNode s j → Alike s j i → k ≤ j
 
+-- each node has the choice of its class
+pub record Chosen (s : State) (cheaper : Cheaper) (cs : List ℕ) : Type 0 where
+  -- the nodes that settled their classes, the last first
+  pub settlers : List ℕ
+  pub stages : Stages (by_builds cheaper) (table s) (class s) settlers
+  pub long : length cs ≡ length s.nodes
+  pub choices : (i : ℕ) → IsNode s i → slice_index cs i ≡ choice_in (class s) settlers (class s i)
+
 pub record Book (s : State) : Type 0 where
   -- a book has room for 1,024 of each at most, and holds no more than there is room for
   pub limit : s.room ≤ 1024
@@ -157,3 +169,26 @@ with_equation s a b ks =
       priced = false;
       room = s.room;
     }
+
+-- with the choices cs: a pricing is in force
+abbrev pub with_choices : State → List ℕ → State
+with_choices s cs =
+    record {
+      names = s.names;
+      nodes = s.nodes;
+      equated = s.equated;
+      classes = s.classes;
+      choices = cs;
+      priced = true;
+      room = s.room;
+    }
+
+abbrev pub same_name : Name → Name → Bool
+same_name [] [] = true
+same_name [] (y ∷ ys) = false
+same_name (x ∷ xs) [] = false
+same_name (x ∷ xs) (y ∷ ys) = cond (x == y) (same_name xs ys) false
+
+abbrev pub symbol_of : List Name → Name → ℕ
+symbol_of [] x = 0
+symbol_of (y ∷ ys) x = cond (same_name y x) 0 (suc (symbol_of ys x))

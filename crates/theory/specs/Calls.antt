@@ -9,14 +9,38 @@
 -- | Equating      | two nodes are said to be equal; the answer is the number of the equation                    |
 -- | Sameness      | whether the builds of two nodes are equal by the book's equations                           |
 -- | Classing      | the class of a node: the lowest node whose build is equal to its own                        |
+-- | Pricing       | classes are settled in stages; afterwards each node has the choice of its class             |
+-- | Spelling      | the text of the build spelled for a node, written into a buffer                             |
+-- | Listing       | the productions that are reached from a node's class, written into an output                |
 -- | UnknownName   | no symbol has the name                                                                      |
 -- | UnknownBuild  | no node has the build                                                                       |
 -- | Proper        | the symbol and the parts are the book's                                                     |
 -- | Both          | both are nodes                                                                              |
-use Rattle.std.specs.Prelude.{◌≡◌, ℕ, ◌<◌, ◌≤◌, Bool, true, false, List, length}
+use Rattle.std.specs.Prelude.{◌≡◌, ℕ, ◌<◌, ◌≤◌, Bool, true, false, ◌⊎◌, List, ◌++◌, length, drop, replicate}
 use Rattle.theory.specs.Names.{Name, IsName}
-use Rattle.theory.specs.Builds.{Build}
-use Rattle.theory.specs.Books.{Node, symbol, Parts, State, Book, Lowest, Alike, IsSymbol, IsNode, build, node_build, name_at, with_name, with_node, with_equation}
+use Rattle.theory.specs.Builds.{Build, text}
+use Rattle.theory.specs.Costs.{Cheaper}
+use Rattle.theory.specs.Books.{
+  Node,
+  symbol,
+  Parts,
+  State,
+  Book,
+  Chosen,
+  Lowest,
+  Alike,
+  IsSymbol,
+  IsNode,
+  build,
+  node_build,
+  name_at,
+  with_name,
+  with_node,
+  with_equation,
+  with_choices,
+}
+use Rattle.theory.specs.Spelling.{Spelled}
+use Rattle.theory.specs.Productions.{Production, Listed}
 
 pub data Answer (A : Type 0) : Type 0 where
   granted : A → Answer A
@@ -68,3 +92,35 @@ pub data Sameness (s : State) (a b : ℕ) (answer : Answer Bool) (t : State) : T
 pub data Classing (s : State) (n : ℕ) (answer : Answer ℕ) (t : State) : Type 0 where
   no_node : ¬ IsNode s n → answer ≡ refused 2 → t ≡ s → Classing s n answer t
   classed : IsNode s n → (k : ℕ) → Lowest s n k → answer ≡ granted k → t ≡ s → Classing s n answer t
+
+-- by a rule that says `cheaper` of builds, with a cost table and a waiting table of so many rows
+pub data Pricing (s : State) (cheaper : Cheaper) (costs waiting : ℕ) (answer : Answer (Unit {0})) (t : State) : Type 0 where
+  -- a pricing in force stands
+  short : (costs < length s.nodes) ⊎ (waiting < length s.nodes) → answer ≡ refused 17 → t ≡ s
+      → Pricing s cheaper costs waiting answer t
+  -- the new pricing replaces the one in force
+  settled : length s.nodes ≤ costs → length s.nodes ≤ waiting → answer ≡ granted tt
+      → (cs : List ℕ) → Chosen s cheaper cs → t ≡ with_choices s cs → Pricing s cheaper costs waiting answer t
+
+-- into a buffer that holds `before`, and `after` afterwards; the answer is the length of the text
+pub data Spelling (s : State) (n : ℕ) (before : List ℕ) (answer : Answer ℕ) (after : List ℕ) (t : State) : Type 0 where
+  no_node : ¬ IsNode s n → answer ≡ refused 2 → after ≡ before → t ≡ s → Spelling s n before answer after t
+  unpriced : IsNode s n → s.priced ≡ false → answer ≡ refused 16 → after ≡ before → t ≡ s → Spelling s n before answer after t
+  too_long : IsNode s n → s.priced ≡ true → (u : Build) → Spelled s n u → length before < length (text u)
+      → answer ≡ refused 17 → after ≡ before → t ≡ s → Spelling s n before answer after t
+  written : IsNode s n → s.priced ≡ true → (u : Build) → Spelled s n u → length (text u) ≤ length before
+      → answer ≡ granted (length (text u)) → after ≡ text u ++ drop (length (text u)) before → t ≡ s
+      → Spelling s n before answer after t
+
+-- with so many marking bytes, which end as `marks`, into an output that holds `before`, and `after` afterwards
+pub data Listing (s : State) (n marking : ℕ) (before : List Production) (answer : Answer ℕ) (after : List Production) (marks : List ℕ)
+    (t : State) : Type 0 where
+  no_node : ¬ IsNode s n → answer ≡ refused 2 → after ≡ before → marks ≡ replicate marking 0 → t ≡ s
+      → Listing s n marking before answer after marks t
+  short : IsNode s n → marking < length s.nodes → answer ≡ refused 17 → after ≡ before → marks ≡ replicate marking 0 → t ≡ s
+      → Listing s n marking before answer after marks t
+  too_long : IsNode s n → length s.nodes ≤ marking → (ps : List Production) → Listed s n ps → length before < length ps
+      → answer ≡ refused 17 → after ≡ before → marks ≡ replicate marking 0 → t ≡ s → Listing s n marking before answer after marks t
+  written : IsNode s n → length s.nodes ≤ marking → (ps : List Production) → Listed s n ps → length ps ≤ length before
+      → answer ≡ granted (length ps) → after ≡ ps ++ drop (length ps) before → marks ≡ replicate marking 0 → t ≡ s
+      → Listing s n marking before answer after marks t

@@ -8,6 +8,10 @@
 -- | cost_over | what a shape costs, from a cost for each part                                                     |
 -- | AtMost    | the first cost is no dearer than the second                                                       |
 -- | RuleLaws  | order, growth and weight: what a rule must meet for a cheapest build to be found class by class   |
+-- | Cheaper   | a rule by what it says of builds alone: whether the first costs less than the second              |
+-- | by_builds | such a rule as a rule whose costs are builds: a build costs itself                                |
+-- | LawfulOrder | what is said of builds keeps the laws                                                           |
+-- | cheaper_by | what a rule says of builds: compared by what they cost                                           |
 -- | choice    | for each class the number of the node chosen for it                                               |
 -- | rank      | for each class how many classes were settled before it                                            |
 -- | Settled   | every class has a choice, made in an order in which costs do not fall, each the cheapest it could |
@@ -51,6 +55,19 @@ pub record RuleLaws {C : Type 0} (rule : Rule C) : Type 0 where
   pub weight_one : (x : Name) (a : C) → AtMost rule a (rule.cost_one x a)
   pub weight_left : (x : Name) (a b : C) → AtMost rule a (rule.cost_two x a b)
   pub weight_right : (x : Name) (a b : C) → AtMost rule b (rule.cost_two x a b)
+
+abbrev pub Cheaper : Type 0
+Cheaper = Build → Build → Bool
+
+abbrev pub by_builds : Cheaper → Rule Build
+by_builds cheaper = record { cost_alone = alone; cost_one = one; cost_two = two; below = cheaper }
+
+-- two builds may cost the same, so neither is then cheaper
+abbrev pub LawfulOrder : Cheaper → Type 0
+LawfulOrder cheaper = RuleLaws (by_builds cheaper)
+
+abbrev pub cheaper_by : {C : Type 0} → Rule C → Cheaper
+cheaper_by rule u v = rule.below (cost_of rule u) (cost_of rule v)
 
 pub record Settled {C : Type 0} (rule : Rule C) (t : Table) (class choice rank : ℕ → ℕ) (cost : ℕ → C) : Type 0 where
   -- the choice is a node, and one of the class

@@ -10,6 +10,7 @@
 -- | Underway    | choices on the way to being settled: `done` marks the classes, `now` counts them         |
 -- | Next        | node m may be chosen next: its parts are done, and no node that may be chosen is cheaper |
 -- | SetAt       | a function changed at one place                                                          |
+-- | falses      | of how many of the first n numbers a test does not hold                                  |
 -- | Settling    | the steps: start with none done, find a node to choose, choose it, finish with all done  |
 use Rattle.std.specs.Prelude.{◌≡◌, ℕ, zero, suc, ◌<◌, ◌≤◌, Bool, true, false, cond, ◌≢◌, length, ◌==◌}
 use Rattle.theory.specs.Equality.{Equal}
@@ -78,6 +79,10 @@ pub record Next {C : Type 0} (rule : Rule C) (t : Table) (class : ℕ → ℕ) (
 pub record SetAt {A : Type 0} (old new : ℕ → A) (k : ℕ) (v : A) : Type 0 where
   pub here : new k ≡ v
   pub other : (i : ℕ) → i ≢ k → new i ≡ old i
+
+abbrev pub falses : (ℕ → Bool) → ℕ → ℕ
+falses f zero = 0
+falses f (suc n) = cond (f n) (falses f n) (suc (falses f n))
 
 pub record Settling (C : Type 0) : Type 0 where
   -- at the start no class is done

@@ -3,7 +3,9 @@
 
 ghost use Rattle.theory.specs.Statements.{OneReading, DepthWithin, Completeness, Exactness, CheapestAt};
 ghost use Rattle.theory.specs.Steps.{Closing, Settling};
-ghost use Rattle.theory.specs.Pinned.{Pinned};
+ghost use Rattle.theory.specs.Spelling.{PricedStands};
+ghost use Rattle.theory.specs.Productions.{ListedExact};
+ghost use Rattle.theory.specs.Pinned.{Pinned, PinnedLent};
 ghost use Rattle.theory.specs.Examples.{Examples};
 
 // A text is the text of one lawful build at most.
@@ -41,6 +43,16 @@ pub fn settling_steps<C>()
     ensures { Settling C }
 {}
 
+// Where the choices of a book are those of the stages, each node spells one build, equal to its own; nothing equal is cheaper, and equal nodes spell alike.
+pub fn priced_books_stand()
+    ensures { PricedStands }
+{}
+
+// The productions listed for a node's class spell exactly the builds that are equal to the node's build.
+pub fn listing_spells_class()
+    ensures { ListedExact }
+{}
+
 // What the relations of the calls on a book say leaves nothing open: one answer, and one state after.
 pub fn calls_leave_nothing_open()
     ensures { Pinned }
@@ -49,4 +61,9 @@ pub fn calls_leave_nothing_open()
 // The worked examples of equality stand, each with its answer.
 pub fn examples_stand()
     ensures { Examples }
+{}
+
+// The same of the calls that are lent memory, pricing, spelling and listing: and one content of what was lent.
+pub fn lent_calls_leave_nothing_open()
+    ensures { PinnedLent }
 {}
