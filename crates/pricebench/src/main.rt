@@ -10,7 +10,7 @@ use price::bill::Bill;
 use price::rule::PriceRule;
 use price::steps::Steps;
 use price::stock::{Shortage, Stock};
-use pricing::price::price;
+use pricing::cheapest::price;
 use queue::Entry;
 use std::{env, io};
 use text::cause::Layer;

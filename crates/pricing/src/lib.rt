@@ -2,8 +2,8 @@
 #![tactic(auto)]
 
 mod chain;
+pub mod cheapest;
 mod node;
 mod offer;
-pub mod price;
 mod settle;
 mod spread;

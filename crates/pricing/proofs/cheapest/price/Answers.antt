@@ -2,7 +2,7 @@
 use Rattle.theory.specs.Books.{symbol_of}
 use Rattle.price.proofs.Rules.{costed}
 use Rattle.book.specs.Held.{state}
-use Rattle.pricing.proofs.price.price.Goals as goal
+use Rattle.pricing.proofs.cheapest.price.Goals as goal
 
 pub returns : goal.returns
 returns g c =

@@ -4,7 +4,7 @@ use Rattle.book.specs.Held.{contents}
 use Rattle.book.proofs.Whole.{sound_of}
 use Rattle.pricing.specs.Nodes.{Fit}
 use Rattle.pricing.proofs.Renamed.{fit, nodes_length}
-use Rattle.pricing.proofs.price.settle_table.Goals as goal
+use Rattle.pricing.proofs.cheapest.settle_table.Goals as goal
 
 pub slice_bounds-settle-end : goal.slice_bounds-settle-end
 slice_bounds-settle-end g c = (sound_of (contents c.args.table.now) c.requires.holds).nodes_fit.0

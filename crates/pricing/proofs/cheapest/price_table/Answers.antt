@@ -8,7 +8,7 @@ use Rattle.book.proofs.Whole.{sound_of}
 use Rattle.book.proofs.Booked.{laid_still}
 use Rattle.pricing.proofs.Settles.{getD_same}
 use Rattle.pricing.proofs.Prices.{too_short, pricing, told, cheapest, kept, relaid}
-use Rattle.pricing.proofs.price.price_table.Goals as goal
+use Rattle.pricing.proofs.cheapest.price_table.Goals as goal
 
 pub returns-then-not-long_enough : goal.returns-then-not-long_enough
 returns-then-not-long_enough g c =
