@@ -22,8 +22,8 @@ derives_to s t e ps (two x u v) k (p, m, c, n, z, d, f) =
 
 -- a book with any choices will do
 module _ (s : State) (choices : List ℕ) (priced : Bool) where
-  abbrev with-others : State
-  with-others =
+  abbrev with_others : State
+  with_others =
       record {
         names = s.names;
         nodes = s.nodes;
@@ -34,12 +34,12 @@ module _ (s : State) (choices : List ℕ) (priced : Bool) where
         room = s.room;
       }
 
-  listed_spells : Book with-others → (n : ℕ) → IsNode s n → (ps : List Production) → Listed s n ps → Spells s n ps
+  listed_spells : Book with_others → (n : ℕ) → IsNode s n → (ps : List Production) → Listed s n ps → Spells s n ps
   listed_spells B n h ps L u =
-      let x = listed_exact with-others B n h ps (listed_to s s.names s.equated choices priced s.room n ps L) u in
-      (λ e. derives_to with-others s refl ps u (class s n) (x.0 e), λ d. x.1 (derives_to s with-others refl ps u (class s n) d))
+      let x = listed_exact with_others B n h ps (listed_to s s.names s.equated choices priced s.room n ps L) u in
+      (λ e. derives_to with_others s refl ps u (class s n) (x.0 e), λ d. x.1 (derives_to s with_others refl ps u (class s n) d))
 
-  pub spells : Book with-others → (n marking : ℕ) (before after : List Production) (marks : List ℕ) (r : Result ℕ Layer)
+  pub spells : Book with_others → (n marking : ℕ) (before after : List Production) (marks : List ℕ) (r : Result ℕ Layer)
       → Listing s n marking before (count_answer r) after marks s → IfOk r (λ m. Spells s n (take m after))
   spells B n marking before after marks (Err e) l = tt
   spells B n marking before after marks (Ok m) l = go l

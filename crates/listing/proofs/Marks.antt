@@ -5,7 +5,7 @@ use Rattle.std.proofs.lemmas.Bool.{cases_eq, cases_lt, lt-ltb, le-ltb}
 use Rattle.std.proofs.lemmas.List.{get_or-set_same, get_or-set_other, get_or-replicate, get_or_past}
 use Rattle.theory.specs.Steps.{SetAt, falses}
 use Rattle.theory.proofs.Stages.{falses_set}
-use Rattle.theory.specs.Books.{State, node_at, class as class-at}
+use Rattle.theory.specs.Books.{State, node_at, class as class_at}
 use Rattle.theory.specs.Productions.{Part, Reached, top, below}
 use Rattle.book.specs.declared.row.Row.{Row}
 use Rattle.book.specs.Rows.{row, class}
@@ -15,7 +15,7 @@ use Rattle.listing.proofs.Nodes.{Counted, nodes_in, class_in, counted}
 
 module _ (xs : List Row) (ms : List ℕ) (j : ℕ) where
   -- the byte of a node's class
-  pub byte_in : get_or ms (class-at (state_in xs) j) 0 ≡ get_or ms (class xs j) 0
+  pub byte_in : get_or ms (class_at (state_in xs) j) 0 ≡ get_or ms (class xs j) 0
   byte_in = ap (λ (k : ℕ). get_or ms k 0) (class_in xs j)
 
   pub covered_by : (0 < (row xs j).node.parts → IsMarked ms (class xs (row xs j).node.left))
@@ -38,11 +38,11 @@ module _ (xs : List Row) (ms : List ℕ) (j : ℕ) where
       }
 
 -- one node more
-pub closed_more : (s : State) (ms : List ℕ) (j : ℕ) → Closed s ms j → (IsMarked ms (class-at s j) → Covered s ms j) → Closed s ms (j + 1)
+pub closed_more : (s : State) (ms : List ℕ) (j : ℕ) → Closed s ms j → (IsMarked ms (class_at s j) → Covered s ms j) → Closed s ms (j + 1)
 closed_more s ms j c f i h m = go (cases_eq i j)
   where
     go : (i ≡ j) ⊎ (i ≡ j → ⊥) → Covered s ms i
-    go (inl e) = subst (Covered s ms) (sym e) (f (subst (λ (k : ℕ). IsMarked ms (class-at s k)) e m))
+    go (inl e) = subst (Covered s ms) (sym e) (f (subst (λ (k : ℕ). IsMarked ms (class_at s k)) e m))
     go (inr n) = c i (omega arith) m
 
 module _ (ms : List ℕ) (k : ℕ) (h : k < length ms) where
@@ -78,24 +78,24 @@ module _ (s : State) (n : ℕ) where
   pub only_missed : (ms : List ℕ) (k : ℕ) → OnlyReached s n ms → Missed s ms k → OnlyReached s n (set ms k 1)
   only_missed ms k o b =
       let m = b.misses in
-      only_more ms k o (subst (Reached s n) (sym m.of_part) (below b.node m.part b.is_node (o (class-at s b.node) b.marked) m.is_part))
+      only_more ms k o (subst (Reached s n) (sym m.of_part) (below b.node m.part b.is_node (o (class_at s b.node) b.marked) m.is_part))
 
   -- no mark but the node's own class
-  only_own : (size : ℕ) → OnlyReached s n (set (replicate size 0) (class-at s n) 1)
-  only_own size = only_more (replicate size 0) (class-at s n) (λ i m. absurd (omega (arith, none i (cases_lt i size)))) top
+  only_own : (size : ℕ) → OnlyReached s n (set (replicate size 0) (class_at s n) 1)
+  only_own size = only_more (replicate size 0) (class_at s n) (λ i m. absurd (omega (arith, none i (cases_lt i size)))) top
     where
       none : (i : ℕ) → (i < size) ⊎ (size ≤ i) → ◌≡◌ {A = ℕ} (get_or (replicate size 0) i 0) 0
       none i (inl h) = get_or-replicate size i 0 0 h
       none i (inr h) = get_or_past (replicate size 0) i 0 (omega (arith, length-replicate {A = ℕ} size 0))
 
-  pub all_reached : (ms : List ℕ) → Closed s ms (length s.nodes) → IsMarked ms (class-at s n) → (k : ℕ) → Reached s n k → IsMarked ms k
+  pub all_reached : (ms : List ℕ) → Closed s ms (length s.nodes) → IsMarked ms (class_at s n) → (k : ℕ) → Reached s n k → IsMarked ms k
   all_reached ms c m k top = m
-  all_reached ms c m k (below j p h r q) = c j h (all_reached ms c m (class-at s j) r) p q
+  all_reached ms c m k (below j p h r q) = c j h (all_reached ms c m (class_at s j) r) p q
 
 pub first_mark : (xs : List Row) (n size : ℕ) (ms : List ℕ) → class xs n < size → ms ≡ set (replicate size 0) (class xs n) 1
-    → OnlyReached (state_in xs) n ms × IsMarked ms (class-at (state_in xs) n)
+    → OnlyReached (state_in xs) n ms × IsMarked ms (class_at (state_in xs) n)
 first_mark xs n size ms h e =
     let s = state_in xs in
-    let k = class-at s n in
+    let k = class_at s n in
     subst (λ (l : List ℕ). OnlyReached s n l × IsMarked l k) (ap (λ (i : ℕ). set (replicate size 0) i 1) (class_in xs n) ∙ sym e)
     (only_own s n size, set_marked (replicate size 0) k (omega (arith, class_in xs n, length-replicate {A = ℕ} size 0)))

@@ -54,9 +54,9 @@ module _ (s : State) (names : List Name) (equated : NodePairs) (choices : List �
         order = λ a b l h. before_to _ _ (L.order a b l h);
       }
 
-  pub listing-to : (n marking : ℕ) (before : List Production) (answer : Answer ℕ) (after : List Production) (marks : List ℕ)
+  pub listing_to : (n marking : ℕ) (before : List Production) (answer : Answer ℕ) (after : List Production) (marks : List ℕ)
       → Listing s n marking before answer after marks s → Listing other n marking before answer after marks other
-  listing-to n marking before answer after marks (no_node h a e m f) = no_node h a e m refl
-  listing-to n marking before answer after marks (short h l a e m f) = short h l a e m refl
-  listing-to n marking before answer after marks (too_long h l ps L z a e m f) = too_long h l ps (listed_to n ps L) z a e m refl
-  listing-to n marking before answer after marks (written h l ps L z a e m f) = written h l ps (listed_to n ps L) z a e m refl
+  listing_to n marking before answer after marks (no_node h a e m f) = no_node h a e m refl
+  listing_to n marking before answer after marks (short h l a e m f) = short h l a e m refl
+  listing_to n marking before answer after marks (too_long h l ps L z a e m f) = too_long h l ps (listed_to n ps L) z a e m refl
+  listing_to n marking before answer after marks (written h l ps L z a e m f) = written h l ps (listed_to n ps L) z a e m refl

@@ -2,7 +2,7 @@
 use Rattle.std.proofs.Common.{◌≡◌, ℕ, zero, suc, ◌<◌, ◌≤◌, ◌⊎◌, List, length, take, sym, refl, ap, ◌∙◌, subst, inl, inr, arith}
 use lib.ListN.{length-map, get_or-map}
 use Rattle.std.proofs.lemmas.List.{length-take-le, get_or-take}
-use Rattle.theory.specs.Books.{State, node_at, class as class-at}
+use Rattle.theory.specs.Books.{State, node_at, class as class_at}
 use Rattle.theory.specs.Productions.{Part, made_by, production}
 use Rattle.book.specs.declared.row.Row.{Row}
 use Rattle.book.specs.declared.row.Node.{Node}
@@ -32,15 +32,15 @@ right_part x (suc zero) l r h = absurd (omega arith)
 right_part x (suc (suc n)) l r h = inr refl
 
 -- a missing part is 0, and so is its class
-made_entry : (s : State) (k x n l r : ℕ) → n ≤ 2 → class-at s 0 ≡ 0 → (n < 1 → l ≡ 0) → (n < 2 → r ≡ 0)
-    → made_by s k (entry x n l r) ≡ record { of = k; symbol = x; parts = n; left = class-at s l; right = class-at s r }
+made_entry : (s : State) (k x n l r : ℕ) → n ≤ 2 → class_at s 0 ≡ 0 → (n < 1 → l ≡ 0) → (n < 2 → r ≡ 0)
+    → made_by s k (entry x n l r) ≡ record { of = k; symbol = x; parts = n; left = class_at s l; right = class_at s r }
 made_entry s k x zero l r h z a b =
-    let e = ap (class-at s) (a (omega arith)) ∙ z in
-    let f = ap (class-at s) (b (omega arith)) ∙ z in
+    let e = ap (class_at s) (a (omega arith)) ∙ z in
+    let f = ap (class_at s) (b (omega arith)) ∙ z in
     λ i. record { of = k; symbol = x; parts = 0; left = sym e i; right = sym f i }
 made_entry s k x (suc zero) l r h z a b =
-    let f = ap (class-at s) (b (omega arith)) ∙ z in
-    λ i. record { of = k; symbol = x; parts = 1; left = class-at s l; right = sym f i }
+    let f = ap (class_at s) (b (omega arith)) ∙ z in
+    λ i. record { of = k; symbol = x; parts = 1; left = class_at s l; right = sym f i }
 made_entry s k x (suc (suc zero)) l r h z a b = refl
 made_entry s k x (suc (suc (suc n))) l r h z a b = absurd (omega arith)
 
@@ -51,7 +51,7 @@ module _ (xs : List Row) where
   node_in : (j : ℕ) → node_at (state_in xs) j ≡ entry_of (row xs j).node
   node_in j = get_or-map (λ (r : Row). entry_of r.node) xs j absent
 
-  pub class_in : (j : ℕ) → class-at (state_in xs) j ≡ class xs j
+  pub class_in : (j : ℕ) → class_at (state_in xs) j ≡ class xs j
   class_in j = get_or-map (λ (r : Row). r.node.class) xs j absent
 
   pub counted : (j p : ℕ) → Part p (node_at (state_in xs) j) → Counted (row xs j).node p
@@ -73,9 +73,9 @@ module _ (xs : List Row) where
   production_in R j h =
       let x = (row xs j).node in
       let t = R.tidy j h in
-      let z : class-at (state_in xs) 0 ≡ 0 = class_in 0 ∙ omega (arith, R.least 0 (omega arith)) in
-      sym (ap (made_by (state_in xs) (class-at (state_in xs) j)) (node_in j)
-      ∙ made_entry (state_in xs) (class-at (state_in xs) j) x.symbol x.parts x.left x.right t.0 z t.3 t.4
+      let z : class_at (state_in xs) 0 ≡ 0 = class_in 0 ∙ omega (arith, R.least 0 (omega arith)) in
+      sym (ap (made_by (state_in xs) (class_at (state_in xs) j)) (node_in j)
+      ∙ made_entry (state_in xs) (class_at (state_in xs) j) x.symbol x.parts x.left x.right t.0 z t.3 t.4
       ∙ (λ i. record { of = class_in j i; symbol = x.symbol; parts = x.parts; left = class_in x.left i; right = class_in x.right i }))
 
 -- the rows of a sound book's nodes

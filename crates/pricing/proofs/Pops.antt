@@ -116,15 +116,15 @@ module _ {C : Type 0} {rule : Rule C} {t : Table} {class : ℕ → ℕ} (lower :
         ∙ D.chosen k h
         ∙ ap₂ (λ (b : Bool) (n : ℕ). cond b (n + 1) 0) (sym ((done_set class ms x.node).other k e)) (sym ((choice_set class ms x.node).other k e))
 
-    priced-at : length t ≤ length cs → (k : ℕ) (d : C) → k < length t → Dec (k ≡ class x.node) → done_in class (x.node ∷ ms) k ≡ true
+    priced_at : length t ≤ length cs → (k : ℕ) (d : C) → k < length t → Dec (k ≡ class x.node) → done_in class (x.node ∷ ms) k ≡ true
         → get_or (set cs (class x.node) x.cost) k d ≡ cost_in rule t class (x.node ∷ ms) k
-    priced-at long k d h (yes e) f =
+    priced_at long k d h (yes e) f =
         ap (λ (n : ℕ). get_or (set cs (class x.node) x.cost) n d) e
         ∙ get_or-set_same cs (class x.node) x.cost d (omega (arith, within x.node here.0))
         ∙ here.2
         ∙ sym (cost_set rule t class ms x.node).here
         ∙ ap (cost_in rule t class (x.node ∷ ms)) (sym e)
-    priced-at long k d h (no e) f =
+    priced_at long k d h (no e) f =
         get_or-set_other cs (class x.node) k x.cost d e
         ∙ D.priced k d h (sym ((done_set class ms x.node).other k e) ∙ f)
         ∙ sym ((cost_set rule t class ms x.node).other k e)
@@ -132,11 +132,11 @@ module _ {C : Type 0} {rule : Rule C} {t : Table} {class : ℕ → ℕ} (lower :
     -- it settles its class
     pub settles : length t ≤ length ch → length t ≤ length cs
         → Due rule t class (x.node ∷ ms) (set ch (class x.node) (x.node + 1)) (set cs (class x.node) x.cost) F q'
-    settles long-ch long-cs =
+    settles long_ch long_cs =
         record {
           staged = stage D.staged foremost;
-          chosen = λ k h. chosen_at long-ch k h (ℕ_discrete k (class x.node));
-          priced = λ k d h e. priced-at long-cs k d h (ℕ_discrete k (class x.node)) e;
+          chosen = λ k h. chosen_at long_ch k h (ℕ_discrete k (class x.node));
+          priced = λ k d h e. priced_at long_cs k d h (ℕ_discrete k (class x.node)) e;
           flagged = λ j h e. still j (D.flagged j h e);
           sound = λ y h.
               let v = D.sound y (was_held y h) in

@@ -152,8 +152,8 @@ module _ (s : Contents) (K : Sound s) where
     abbrev bare_one : Rule C
     bare_one = rule_of below alone one two r bare_number
 
-    abbrev named-one : Rule C
-    named-one = rule_of below alone one two r (symbol_of (state_of s).names)
+    abbrev named_one : Rule C
+    named_one = rule_of below alone one two r (symbol_of (state_of s).names)
 
     long : length (table_of (state_of s)) ≡ length (table (take s.nodes s.rows))
     long = shapes_long s K ∙ sym (table_long bare s.rows s.nodes K.nodes_fit.0)
@@ -165,11 +165,11 @@ module _ (s : Contents) (K : Sound s) where
     bare_is i h = table_at bare s.rows s.nodes i K.nodes_fit.0 h
 
     costs : (f : ℕ → C) (i : ℕ) → i < length (table (take s.nodes s.rows))
-        → cost_over named-one f (shape_at (table_of (state_of s)) i) ≡ cost_over bare_one f (shape_at (table (take s.nodes s.rows)) i)
+        → cost_over named_one f (shape_at (table_of (state_of s)) i) ≡ cost_over bare_one f (shape_at (table (take s.nodes s.rows)) i)
     costs f i h =
         let l = in_rows i h in
         let x = (row s.rows i).node in
-        ap (cost_over named-one f) (shape_is s K i l)
+        ap (cost_over named_one f) (shape_is s K i l)
         ∙ cost_shaped below alone one two r (symbol_of (state_of s).names) (name_of s.rows) f x.symbol x.parts x.left x.right (symbol_here i l)
         ∙ sym (ap (cost_over bare_one f) (bare_is i l))
 
@@ -190,16 +190,16 @@ module _ (s : Contents) (K : Sound s) where
         (parts_shaped P (name_of s.rows) bare x.symbol x.parts x.left x.right (subst (EachPart P) (shape_is s K i l) e))
 
     module _ {ms : List ℕ} (S : Stages bare_one (table (take s.nodes s.rows)) (class (take s.nodes s.rows)) ms) where
-      pub stages_named : Stages named-one (table_of (state_of s)) (class_at (state_of s)) ms
+      pub stages_named : Stages named_one (table_of (state_of s)) (class_at (state_of s)) ms
       stages_named =
-          subst (λ (f : ℕ → ℕ). Stages named-one (table_of (state_of s)) f ms) same_class
-          (stages_same bare_one named-one (table (take s.nodes s.rows)) (table_of (state_of s)) (class (take s.nodes s.rows))
+          subst (λ (f : ℕ → ℕ). Stages named_one (table_of (state_of s)) f ms) same_class
+          (stages_same bare_one named_one (table (take s.nodes s.rows)) (table_of (state_of s)) (class (take s.nodes s.rows))
           long (λ a b. refl) costs to from S)
 
       pub cost_named_in : (k : ℕ) → done_in (class (take s.nodes s.rows)) ms k ≡ true
           → cost_in bare_one (table (take s.nodes s.rows)) (class (take s.nodes s.rows)) ms k
-          ≡ cost_in named-one (table_of (state_of s)) (class_at (state_of s)) ms k
+          ≡ cost_in named_one (table_of (state_of s)) (class_at (state_of s)) ms k
       cost_named_in k e =
-          sym (cost_in_same bare_one named-one (table (take s.nodes s.rows)) (table_of (state_of s)) (class (take s.nodes s.rows))
+          sym (cost_in_same bare_one named_one (table (take s.nodes s.rows)) (table_of (state_of s)) (class (take s.nodes s.rows))
           long (λ a b. refl) costs to from S.staged k e)
-          ∙ ap (λ (f : ℕ → ℕ). cost_in named-one (table_of (state_of s)) f ms k) same_class
+          ∙ ap (λ (f : ℕ → ℕ). cost_in named_one (table_of (state_of s)) f ms k) same_class

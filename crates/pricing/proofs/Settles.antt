@@ -154,7 +154,7 @@ module _ (xs : List Row) (fit : Fit xs) where
             → ((i : ℕ) → i < length xs → right_key xs i ≡ key + 1 → ready_at xs ch' i ≡ true → flag F₂ i ≡ true)
             → Waits rule.below (length xs) F₂ q₂ → q'.entries.ghost_name ≡ q.entries.ghost_name → q₁.entries.ghost_name ≡ q'.entries.ghost_name
             → q₂.entries.ghost_name ≡ q₁.entries.ghost_name → Between rule xs ch' bs cs' F₂ q₂ lent
-        taken_up first s long-ch long-cs ch' cs' H key v F₁ F₂ q₁ q₂ O₁ O₂ left right W n n₁ n₂ =
+        taken_up first s long_ch long_cs ch' cs' H key v F₁ F₂ q₁ q₂ O₁ O₂ left right W n n₁ n₂ =
             let ms = B.settlers in
             let k = class xs x.node in
             let S = settles parts_first within B.due x (held q') P.takes B.full first (sym s) (omega (arith, table_long)) (omega (arith, table_long)) in

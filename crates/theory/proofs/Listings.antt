@@ -137,11 +137,11 @@ module _ (s : State) (k : ℕ) where
       (a, ap (λ (w : Name). unary w a) (g ∙ e), ap (λ (r : Production). r.left) m)
   unary_of (pair x a b) p m z e f = absurd (omega (arith, ap (λ (r : Production). r.parts) m))
 
-  binary-of : (y : Node) (p : Production) → made_by s k y ≡ p → (z : Name) → name_at s p.symbol ≡ z → p.parts ≡ 2
+  binary_of : (y : Node) (p : Production) → made_by s k y ≡ p → (z : Name) → name_at s p.symbol ≡ z → p.parts ≡ 2
       → (a b : ℕ) × (shape s.names y ≡ binary z a b) × (class s a ≡ p.left) × (class s b ≡ p.right)
-  binary-of (leaf x) p m z e f = absurd (omega (arith, ap (λ (r : Production). r.parts) m))
-  binary-of (over x a) p m z e f = absurd (omega (arith, ap (λ (r : Production). r.parts) m))
-  binary-of (pair x a b) p m z e f =
+  binary_of (leaf x) p m z e f = absurd (omega (arith, ap (λ (r : Production). r.parts) m))
+  binary_of (over x a) p m z e f = absurd (omega (arith, ap (λ (r : Production). r.parts) m))
+  binary_of (pair x a b) p m z e f =
       let g = ap (λ (r : Production). name_at s r.symbol) m in
       (a, b, ap (λ (w : Name). binary w a b) (g ∙ e), ap (λ (r : Production). r.left) m, ap (λ (r : Production). r.right) m)
 
@@ -209,7 +209,7 @@ module _ (s : State) (n : ℕ) (ps : List Production) (L : Listed s n ps) where
   generated (two x u v) k a =
       let f = source a.0 k a.1 a.2 in
       let j = f.0 in
-      let b = binary-of s (class s j) (node_at s j) a.0 f.3 x a.3 a.4 in
+      let b = binary_of s (class s j) (node_at s j) a.0 f.3 x a.3 a.4 in
       let l = generated u a.0.left a.5 in
       let r = generated v a.0.right a.6 in (
         j,

@@ -7,7 +7,7 @@ use Rattle.theory.specs.Builds.{Build, text}
 use Rattle.theory.specs.Costs.{Cheaper, by_builds}
 use Rattle.theory.specs.Stages.{choice_in}
 use Rattle.theory.specs.Books.{Node, State, Book, Chosen, Lowest, IsNode, table, class, with_node, with_equation, with_choices}
-use Rattle.theory.specs.Calls.{Answer, granted, Naming, Entering, Equating, Sameness, Classing, Pricing, Spelling, Naming.ill_formed, Naming.known as name_known, Naming.full as names_full, Naming.new as new_name, Entering.no_symbol, Entering.no_part, Entering.known as build_known, Entering.full as nodes_full, Entering.new as new_node, Equating.no_node as equating_no_node, Equating.full as equations_full, Equating.accepted, Sameness.no_node as not_both, Sameness.same as same_builds, Sameness.different, Classing.no_node as no_class, Classing.classed as class_of, Pricing.short, Pricing.settled, Spelling.no_node as no-spelling, Spelling.unpriced, Spelling.too_long, Spelling.written, Listing, Listing.no_node as no-listing, Listing.short as marks-short, Listing.too_long as too_many, Listing.written as all_listed}
+use Rattle.theory.specs.Calls.{Answer, granted, Naming, Entering, Equating, Sameness, Classing, Pricing, Spelling, Naming.ill_formed, Naming.known as name_known, Naming.full as names_full, Naming.new as new_name, Entering.no_symbol, Entering.no_part, Entering.known as build_known, Entering.full as nodes_full, Entering.new as new_node, Equating.no_node as equating_no_node, Equating.full as equations_full, Equating.accepted, Sameness.no_node as not_both, Sameness.same as same_builds, Sameness.different, Classing.no_node as no_class, Classing.classed as class_of, Pricing.short, Pricing.settled, Spelling.no_node as no_spelling, Spelling.unpriced, Spelling.too_long, Spelling.written, Listing, Listing.no_node as no_listing, Listing.short as marks_short, Listing.too_long as too_many, Listing.written as all_listed}
 use Rattle.theory.specs.Spelling.{Spelled}
 use Rattle.theory.specs.Productions.{Production}
 use Rattle.theory.specs.Pinned.{SameEnd, Pinned, PinnedLent}
@@ -134,19 +134,19 @@ module _ (s : State) (B : Book s) where
 
   spelling : (n : ℕ) (before : List ℕ) (w w' : Answer ℕ) (after after' : List ℕ) (t t' : State)
       → Spelling s n before w after t → Spelling s n before w' after' t' → SameEnd w t w' t' × (after ≡ after')
-  spelling n before w w' after after' t t' (no-spelling m1 a1 f1 e1) (no-spelling m2 a2 f2 e2) = ((a1 ∙ sym a2, e1 ∙ sym e2), f1 ∙ sym f2)
-  spelling n before w w' after after' t t' (no-spelling m1 a1 f1 e1) (unpriced h2 p2 a2 f2 e2) = absurd (m1 h2)
-  spelling n before w w' after after' t t' (no-spelling m1 a1 f1 e1) (too_long h2 p2 u2 S2 l2 a2 f2 e2) = absurd (m1 h2)
-  spelling n before w w' after after' t t' (no-spelling m1 a1 f1 e1) (written h2 p2 u2 S2 l2 a2 f2 e2) = absurd (m1 h2)
-  spelling n before w w' after after' t t' (unpriced h1 p1 a1 f1 e1) (no-spelling m2 a2 f2 e2) = absurd (m2 h1)
+  spelling n before w w' after after' t t' (no_spelling m1 a1 f1 e1) (no_spelling m2 a2 f2 e2) = ((a1 ∙ sym a2, e1 ∙ sym e2), f1 ∙ sym f2)
+  spelling n before w w' after after' t t' (no_spelling m1 a1 f1 e1) (unpriced h2 p2 a2 f2 e2) = absurd (m1 h2)
+  spelling n before w w' after after' t t' (no_spelling m1 a1 f1 e1) (too_long h2 p2 u2 S2 l2 a2 f2 e2) = absurd (m1 h2)
+  spelling n before w w' after after' t t' (no_spelling m1 a1 f1 e1) (written h2 p2 u2 S2 l2 a2 f2 e2) = absurd (m1 h2)
+  spelling n before w w' after after' t t' (unpriced h1 p1 a1 f1 e1) (no_spelling m2 a2 f2 e2) = absurd (m2 h1)
   spelling n before w w' after after' t t' (unpriced h1 p1 a1 f1 e1) (unpriced h2 p2 a2 f2 e2) = ((a1 ∙ sym a2, e1 ∙ sym e2), f1 ∙ sym f2)
   spelling n before w w' after after' t t' (unpriced h1 p1 a1 f1 e1) (too_long h2 p2 u2 S2 l2 a2 f2 e2) = absurd (both_ways s.priced p1 p2)
   spelling n before w w' after after' t t' (unpriced h1 p1 a1 f1 e1) (written h2 p2 u2 S2 l2 a2 f2 e2) = absurd (both_ways s.priced p1 p2)
-  spelling n before w w' after after' t t' (too_long h1 p1 u1 S1 l1 a1 f1 e1) (no-spelling m2 a2 f2 e2) = absurd (m2 h1)
+  spelling n before w w' after after' t t' (too_long h1 p1 u1 S1 l1 a1 f1 e1) (no_spelling m2 a2 f2 e2) = absurd (m2 h1)
   spelling n before w w' after after' t t' (too_long h1 p1 u1 S1 l1 a1 f1 e1) (unpriced h2 p2 a2 f2 e2) = absurd (both_ways s.priced p2 p1)
   spelling n before w w' after after' t t' (too_long h1 p1 u1 S1 l1 a1 f1 e1) (too_long h2 p2 u2 S2 l2 a2 f2 e2) = ((a1 ∙ sym a2, e1 ∙ sym e2), f1 ∙ sym f2)
   spelling n before w w' after after' t t' (too_long h1 p1 u1 S1 l1 a1 f1 e1) (written h2 p2 u2 S2 l2 a2 f2 e2) = absurd (omega (arith, same_length n u1 u2 S1 S2))
-  spelling n before w w' after after' t t' (written h1 p1 u1 S1 l1 a1 f1 e1) (no-spelling m2 a2 f2 e2) = absurd (m2 h1)
+  spelling n before w w' after after' t t' (written h1 p1 u1 S1 l1 a1 f1 e1) (no_spelling m2 a2 f2 e2) = absurd (m2 h1)
   spelling n before w w' after after' t t' (written h1 p1 u1 S1 l1 a1 f1 e1) (unpriced h2 p2 a2 f2 e2) = absurd (both_ways s.priced p2 p1)
   spelling n before w w' after after' t t' (written h1 p1 u1 S1 l1 a1 f1 e1) (too_long h2 p2 u2 S2 l2 a2 f2 e2) = absurd (omega (arith, same_length n u1 u2 S1 S2))
   spelling n before w w' after after' t t' (written h1 p1 u1 S1 l1 a1 f1 e1) (written h2 p2 u2 S2 l2 a2 f2 e2) =
@@ -158,20 +158,20 @@ module _ (s : State) (B : Book s) where
   listing : (n marking : ℕ) (before : List Production) (w w' : Answer ℕ) (after after' : List Production) (marks marks' : List ℕ) (t t' : State)
       → Listing s n marking before w after marks t → Listing s n marking before w' after' marks' t'
       → SameEnd w t w' t' × (after ≡ after') × (marks ≡ marks')
-  listing n marking before w w' after after' marks marks' t t' (no-listing m1 a1 f1 k1 e1) (no-listing m2 a2 f2 k2 e2) = ((a1 ∙ sym a2, e1 ∙ sym e2), f1 ∙ sym f2, k1 ∙ sym k2)
-  listing n marking before w w' after after' marks marks' t t' (no-listing m1 a1 f1 k1 e1) (marks-short h2 g2 a2 f2 k2 e2) = absurd (m1 h2)
-  listing n marking before w w' after after' marks marks' t t' (no-listing m1 a1 f1 k1 e1) (too_many h2 g2 ps2 L2 l2 a2 f2 k2 e2) = absurd (m1 h2)
-  listing n marking before w w' after after' marks marks' t t' (no-listing m1 a1 f1 k1 e1) (all_listed h2 g2 ps2 L2 l2 a2 f2 k2 e2) = absurd (m1 h2)
-  listing n marking before w w' after after' marks marks' t t' (marks-short h1 g1 a1 f1 k1 e1) (no-listing m2 a2 f2 k2 e2) = absurd (m2 h1)
-  listing n marking before w w' after after' marks marks' t t' (marks-short h1 g1 a1 f1 k1 e1) (marks-short h2 g2 a2 f2 k2 e2) = ((a1 ∙ sym a2, e1 ∙ sym e2), f1 ∙ sym f2, k1 ∙ sym k2)
-  listing n marking before w w' after after' marks marks' t t' (marks-short h1 g1 a1 f1 k1 e1) (too_many h2 g2 ps2 L2 l2 a2 f2 k2 e2) = absurd (omega arith)
-  listing n marking before w w' after after' marks marks' t t' (marks-short h1 g1 a1 f1 k1 e1) (all_listed h2 g2 ps2 L2 l2 a2 f2 k2 e2) = absurd (omega arith)
-  listing n marking before w w' after after' marks marks' t t' (too_many h1 g1 ps1 L1 l1 a1 f1 k1 e1) (no-listing m2 a2 f2 k2 e2) = absurd (m2 h1)
-  listing n marking before w w' after after' marks marks' t t' (too_many h1 g1 ps1 L1 l1 a1 f1 k1 e1) (marks-short h2 g2 a2 f2 k2 e2) = absurd (omega arith)
+  listing n marking before w w' after after' marks marks' t t' (no_listing m1 a1 f1 k1 e1) (no_listing m2 a2 f2 k2 e2) = ((a1 ∙ sym a2, e1 ∙ sym e2), f1 ∙ sym f2, k1 ∙ sym k2)
+  listing n marking before w w' after after' marks marks' t t' (no_listing m1 a1 f1 k1 e1) (marks_short h2 g2 a2 f2 k2 e2) = absurd (m1 h2)
+  listing n marking before w w' after after' marks marks' t t' (no_listing m1 a1 f1 k1 e1) (too_many h2 g2 ps2 L2 l2 a2 f2 k2 e2) = absurd (m1 h2)
+  listing n marking before w w' after after' marks marks' t t' (no_listing m1 a1 f1 k1 e1) (all_listed h2 g2 ps2 L2 l2 a2 f2 k2 e2) = absurd (m1 h2)
+  listing n marking before w w' after after' marks marks' t t' (marks_short h1 g1 a1 f1 k1 e1) (no_listing m2 a2 f2 k2 e2) = absurd (m2 h1)
+  listing n marking before w w' after after' marks marks' t t' (marks_short h1 g1 a1 f1 k1 e1) (marks_short h2 g2 a2 f2 k2 e2) = ((a1 ∙ sym a2, e1 ∙ sym e2), f1 ∙ sym f2, k1 ∙ sym k2)
+  listing n marking before w w' after after' marks marks' t t' (marks_short h1 g1 a1 f1 k1 e1) (too_many h2 g2 ps2 L2 l2 a2 f2 k2 e2) = absurd (omega arith)
+  listing n marking before w w' after after' marks marks' t t' (marks_short h1 g1 a1 f1 k1 e1) (all_listed h2 g2 ps2 L2 l2 a2 f2 k2 e2) = absurd (omega arith)
+  listing n marking before w w' after after' marks marks' t t' (too_many h1 g1 ps1 L1 l1 a1 f1 k1 e1) (no_listing m2 a2 f2 k2 e2) = absurd (m2 h1)
+  listing n marking before w w' after after' marks marks' t t' (too_many h1 g1 ps1 L1 l1 a1 f1 k1 e1) (marks_short h2 g2 a2 f2 k2 e2) = absurd (omega arith)
   listing n marking before w w' after after' marks marks' t t' (too_many h1 g1 ps1 L1 l1 a1 f1 k1 e1) (too_many h2 g2 ps2 L2 l2 a2 f2 k2 e2) = ((a1 ∙ sym a2, e1 ∙ sym e2), f1 ∙ sym f2, k1 ∙ sym k2)
   listing n marking before w w' after after' marks marks' t t' (too_many h1 g1 ps1 L1 l1 a1 f1 k1 e1) (all_listed h2 g2 ps2 L2 l2 a2 f2 k2 e2) = absurd (omega (arith, ap length (listed_once s n ps1 ps2 L1 L2)))
-  listing n marking before w w' after after' marks marks' t t' (all_listed h1 g1 ps1 L1 l1 a1 f1 k1 e1) (no-listing m2 a2 f2 k2 e2) = absurd (m2 h1)
-  listing n marking before w w' after after' marks marks' t t' (all_listed h1 g1 ps1 L1 l1 a1 f1 k1 e1) (marks-short h2 g2 a2 f2 k2 e2) = absurd (omega arith)
+  listing n marking before w w' after after' marks marks' t t' (all_listed h1 g1 ps1 L1 l1 a1 f1 k1 e1) (no_listing m2 a2 f2 k2 e2) = absurd (m2 h1)
+  listing n marking before w w' after after' marks marks' t t' (all_listed h1 g1 ps1 L1 l1 a1 f1 k1 e1) (marks_short h2 g2 a2 f2 k2 e2) = absurd (omega arith)
   listing n marking before w w' after after' marks marks' t t' (all_listed h1 g1 ps1 L1 l1 a1 f1 k1 e1) (too_many h2 g2 ps2 L2 l2 a2 f2 k2 e2) = absurd (omega (arith, ap length (listed_once s n ps1 ps2 L1 L2)))
   listing n marking before w w' after after' marks marks' t t' (all_listed h1 g1 ps1 L1 l1 a1 f1 k1 e1) (all_listed h2 g2 ps2 L2 l2 a2 f2 k2 e2) =
       let q = listed_once s n ps1 ps2 L1 L2 in (

@@ -280,8 +280,8 @@ module _ {C : Type 0} (rule : Rule C) (s : State) (closed : Closed (table s) (cl
         let f = suc (rank_in (class s) ms (class s n)) in
         spelled_from f n h (ends_past f n (in_table s n h) (omega arith))
 
-    only-the : (n : ℕ) → IsNode s n → (u : Build) → Spelled s n u → the n ≡ u
-    only-the n h u a = spelled_once s (the n) u n (is_the n h) a
+    only_the : (n : ℕ) → IsNode s n → (u : Build) → Spelled s n u → the n ≡ u
+    only_the n h u a = spelled_once s (the n) u n (is_the n h) a
 
     spells : Spells rule (table s) (class s) s.equated (choice s) (rank_in (class s) ms) (cost_in rule (table s) (class s) ms)
     spells =
@@ -319,7 +319,7 @@ priced_stands s B cheaper lawful K =
     let S = spells (by_builds cheaper) s closed K.stages K.choices lawful in
     let v = the (by_builds cheaper) s closed K.stages K.choices lawful in
     let only : (n : ℕ) → IsNode s n → (u : Build) → Spelled s n u → v n ≡ u
-    = only-the (by_builds cheaper) s closed K.stages K.choices lawful in
+    = only_the (by_builds cheaper) s closed K.stages K.choices lawful in
     record {
       some = λ n h. (v n, is_the (by_builds cheaper) s closed K.stages K.choices lawful n h);
       only = λ n u w a b. spelled_once s u w n a b;
@@ -346,4 +346,4 @@ spelled_cost rule lawful s B {ms} stages cs choices n h u a =
     let v = the order s' closed stages' choices lawful n in
     let e : v ≡ cost_in order (table s) (class s) ms (class s n)
     = sym (cost_self (cheaper_by rule) v) ∙ (spells order s' closed stages' choices lawful).costs n (in_table s n h) in
-    ap (cost_of rule) (sym (only-the order s' closed stages' choices lawful n h u a) ∙ e) ∙ cost_of_in rule (table s) (class s) ms (class s n)
+    ap (cost_of rule) (sym (only_the order s' closed stages' choices lawful n h u a) ∙ e) ∙ cost_of_in rule (table s) (class s) ms (class s n)

@@ -166,12 +166,12 @@ module _ {C : Type 0} (rule : Rule C) (t : Table) (class : ℕ → ℕ) where
       omega arith
 
   -- so no more stages than nodes
-  pub stages-few : ((i : ℕ) → i < length t → class i < length t) → {ms : List ℕ} → Staged rule t class ms → length ms ≤ length t
-  stages-few low s = omega (arith, count_done low s)
+  pub stages_few : ((i : ℕ) → i < length t → class i < length t) → {ms : List ℕ} → Staged rule t class ms → length ms ≤ length t
+  stages_few low s = omega (arith, count_done low s)
 
-  rank-early : {ms : List ℕ} → Staged rule t class ms → (k : ℕ) → done_in class ms k ≡ true → rank_in class ms k < length ms
-  rank-early begin k e = absurd (both_ways false refl e)
-  rank-early (stage {ms} {m} s f) k e = go (eqb (class m) k) e (rank-early s k)
+  rank_early : {ms : List ℕ} → Staged rule t class ms → (k : ℕ) → done_in class ms k ≡ true → rank_in class ms k < length ms
+  rank_early begin k e = absurd (both_ways false refl e)
+  rank_early (stage {ms} {m} s f) k e = go (eqb (class m) k) e (rank_early s k)
     where
       go : (v : Bool) → cond v true (done_in class ms k) ≡ true → (done_in class ms k ≡ true → rank_in class ms k < length ms)
           → cond v (length ms) (rank_in class ms k) < suc (length ms)
@@ -180,7 +180,7 @@ module _ {C : Type 0} (rule : Rule C) (t : Table) (class : ℕ → ℕ) where
 
   pub rank_short : ((i : ℕ) → i < length t → class i < length t) → {ms : List ℕ} → Staged rule t class ms
       → (k : ℕ) → done_in class ms k ≡ true → rank_in class ms k < length t
-  rank_short low s k e = omega (arith, rank-early s k e, stages-few low s)
+  rank_short low s k e = omega (arith, rank_early s k e, stages_few low s)
 
   -- a choice is a node
   pub choice_node : 0 < length t → {ms : List ℕ} → Staged rule t class ms → (k : ℕ) → choice_in class ms k < length t

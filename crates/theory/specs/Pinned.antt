@@ -1,11 +1,10 @@
 -- The relations of the calls leave nothing open. Cited by the function that stands for this theorem.
 --
--- | word     | meaning                                                                     |
--- |----------|-----------------------------------------------------------------------------|
--- | SameEnd  | one answer, and one state after                                             |
--- | Pinned   | of a book and the arguments of a call there is one answer and one state     |
--- | PinnedLent | the same of the calls that are lent a table, a buffer or marking bytes:   |
--- |          | and one content of these after                                              |
+-- | word       | meaning                                                                       |
+-- |------------|-------------------------------------------------------------------------------|
+-- | SameEnd    | one answer, and one state after                                               |
+-- | Pinned     | of a book and the arguments of a call there is one answer and one state       |
+-- | PinnedLent | the same of the calls that are lent memory, and one content of it after       |
 use Rattle.std.specs.Prelude.{◌≡◌, ℕ, Bool, List}
 use Rattle.theory.specs.Names.{Name}
 use Rattle.theory.specs.Costs.{Cheaper}

@@ -5,7 +5,7 @@
 -- |----------------|--------------------------------------------------------------------------------------------------|
 -- | Spelled        | the build spelled for a node: the choice of its class, its parts spelled in the same way         |
 -- | CheapestBuilds | each node spells one build, equal to its own; nothing equal is cheaper; equal nodes spell alike   |
--- | PricedStands   | in a book with a pricing in force, cheapest builds stand                                          |
+-- | PricedStands   | in a book whose choices are those of the stages, by a lawful rule, cheapest builds stand         |
 use Rattle.std.specs.Prelude.{◌≡◌, ℕ, false, ◌↔◌, List}
 use Rattle.theory.specs.Builds.{Build, alone, one, two}
 use Rattle.theory.specs.Equality.{Equation, Equal}

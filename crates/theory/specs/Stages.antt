@@ -1,4 +1,4 @@
--- Settling classes in stages. Cited by the relation of pricing and by what every priced book keeps.
+-- Settling classes in stages. Cited by the relation of pricing.
 -- At each stage one node settles its class and is that class's choice. The stages so far are the list of these nodes, the last first.
 --
 -- | word      | meaning                                                                                          |

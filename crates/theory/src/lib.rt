@@ -43,7 +43,7 @@ pub fn settling_steps<C>()
     ensures { Settling C }
 {}
 
-// Where the choices of a book are those of the stages, each node spells one build, equal to its own; nothing equal is cheaper, and equal nodes spell alike.
+// Where the choices of a book are those of the stages, by a lawful rule, each node spells one build, equal to its own; nothing equal is cheaper, and equal nodes spell alike.
 pub fn priced_books_stand()
     ensures { PricedStands }
 {}
@@ -58,12 +58,12 @@ pub fn calls_leave_nothing_open()
     ensures { Pinned }
 {}
 
+// Nor do the relations of the calls that are lent memory, pricing, spelling and listing: one content of what was lent, too.
+pub fn lent_calls_leave_nothing_open()
+    ensures { PinnedLent }
+{}
+
 // The worked examples of equality stand, each with its answer.
 pub fn examples_stand()
     ensures { Examples }
-{}
-
-// The same of the calls that are lent memory, pricing, spelling and listing: and one content of what was lent.
-pub fn lent_calls_leave_nothing_open()
-    ensures { PinnedLent }
 {}

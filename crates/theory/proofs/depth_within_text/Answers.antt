@@ -1,4 +1,4 @@
--- A lawful build is no deeper than its text is long, by depth-within.
+-- A lawful build is no deeper than its text is long, by depth_within.
 use Rattle.theory.proofs.Texts.{depth_within}
 use Rattle.theory.proofs.depth_within_text.Goals as goal
 

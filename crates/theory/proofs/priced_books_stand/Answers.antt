@@ -1,4 +1,4 @@
--- Cheapest builds stand in a book with a pricing in force, by priced-stands.
+-- Cheapest builds stand where the choices are those of the stages, by priced_stands.
 use Rattle.theory.proofs.Spelling.{priced_stands}
 use Rattle.theory.proofs.priced_books_stand.Goals as goal
 

@@ -9,7 +9,7 @@ use Rattle.book.proofs.Booked.{book_of}
 use Rattle.listing.specs.Told.{plain, count_answer}
 use Rattle.listing.specs.Nodes.{state_in}
 use Rattle.listing.proofs.Nodes.{node_rows}
-use Rattle.listing.proofs.Moved.{listing-to}
+use Rattle.listing.proofs.Moved.{listing_to}
 use Rattle.listing.proofs.Exact.{spells}
 use Rattle.listing.proofs.list.list_checked.Goals as goal
 
@@ -48,7 +48,7 @@ returns c =
     let r = c.list_nodes.result in
     let after = map plain c.list_nodes.new.out in
     let L : (ms : List ℕ) → ms ≡ replicate size 0 → Listing s n size before (count_answer r) after ms s =
-    λ ms e. listing-to (state_in (take t.nodes (contents t).rows)) s.names s.equated s.choices s.priced s.room n size before (count_answer r) after ms (c.list_nodes.ensures ms e) in
+    λ ms e. listing_to (state_in (take t.nodes (contents t).rows)) s.names s.equated s.choices s.priced s.room n size before (count_answer r) after ms (c.list_nodes.ensures ms e) in
     record {
       answer = L;
       grammar = spells s s.choices s.priced (book_of (contents t) (sound_of (contents t) c.requires)) n size before after (replicate size 0) r (L (replicate size 0) refl);
