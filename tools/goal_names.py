@@ -4,7 +4,8 @@
 usage: python3 tools/goal_names.py NAME..      at the top of the repository: for each crate NAME
 
 Where an older file says `returns-then-is-letter` or `c.name-end.result`, today's says `returns-then-is_letter` and `c.name_end.result`. The identifiers are
-those of the sources of the repository, with an underscore in them, and the words that Rattle makes names of.
+those of the sources of the repository, with an underscore in them, and the words that Rattle makes names of. It goes by text: each word with a dash in it is turned, a local
+name or a lemma too, but for lines that import from the library.
 """
 import os
 import re

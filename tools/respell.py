@@ -3,11 +3,11 @@
 
 usage: python3 tools/respell.py        at the top of the repository, once, right after the kit's port.py
 
-It reads which names specs/ and proofs/ define (definitions, lemmas, record fields, constructors, lemmas of an answer file), and turns each
-that has a dash between its letters: `state-of` to `state_of`, `Is-node` to `IsNode`. Names of goals, which Rattle makes, are left
-alone, and so are names that a file takes from the library. In src/ only contracts and imports of ghost names are touched. In comments a name is turned where it
-stands in backticks or in the first column of a table. A name that would have the name of a function of its crate gets `_lem` after it. What
-it says with 'look:' or 'falls together:' is to be looked at.
+It reads which names specs/ and proofs/ define at the left edge, with the record fields and constructors below them, and turns each
+that has a dash between its letters: `state-of` to `state_of`, `Is-node` to `IsNode`. Of the names that stand further in, as those of a module, it sees only
+some: look for the others by hand. Names of goals, which Rattle makes, are left alone, and so are names that a file of specs/ or proofs/ takes from the library. In src/ contracts,
+ghost members, imports of ghost names and backticks in comments are touched. In comments a name is turned where it stands in backticks or in the first column of a table. A name that
+would have the name of a function of its crate gets `_lem` after it. What it says with 'look:' or 'falls together:' is to be looked at.
 """
 import os
 import re
