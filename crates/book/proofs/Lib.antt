@@ -21,6 +21,7 @@ pub mod Named
 pub mod Entered
 pub mod Accepted
 pub mod Equals
+pub mod Front
 pub mod Made
 pub mod Repricing
 pub mod Pinning

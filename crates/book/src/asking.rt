@@ -1,9 +1,11 @@
 // Asking which nodes are equal.
+ghost use Rattle.std.specs.Prelude.{◌≡◌, take};
 ghost use Rattle.theory.specs.Calls.{Sameness, Classing};
 ghost use Rattle.book.specs.Held.{Holds, state};
 ghost use Rattle.book.specs.Answers.{test_answer, node_answer};
 
 use crate::id::NodeId;
+use crate::nodes::Nodes;
 use crate::table::Table;
 use text::cause::{BookCause, Layer};
 
@@ -26,5 +28,14 @@ impl Table<'_> {
             return Err(Layer::Book(BookCause::NoNode));
         }
         Ok(NodeId(self.rows[a.0].node.class as usize))
+    }
+
+    pub(crate) fn only_nodes(&self) -> Nodes<'_>
+        requires { Holds self.now }
+        ensures { result.rows.now ≡ take self.now.nodes self.now.rows.now }
+    {
+        Nodes {
+            rows: &self.rows[..self.nodes],
+        }
     }
 }

@@ -1,5 +1,5 @@
 // A book over lent rows, with what is true of every book in its type. Each call is that of the table below.
-ghost use Rattle.std.specs.Prelude.{◌≡◌, min, length};
+ghost use Rattle.std.specs.Prelude.{◌≡◌, min, length, take};
 ghost use Rattle.theory.specs.Books.{fresh};
 ghost use Rattle.theory.specs.Calls.{Naming, Entering, Equating, Sameness, Classing};
 ghost use Rattle.book.specs.Entering.{asked};
@@ -9,6 +9,7 @@ ghost use Rattle.book.specs.Answers.{symbol_answer, node_answer, equation_answer
 
 use crate::id::{EquationId, NodeId, Parts, Symbol};
 use crate::making::clear;
+use crate::nodes::Nodes;
 use crate::row::Row;
 use crate::table::Table;
 use text::cause::Layer;
@@ -79,5 +80,12 @@ impl Book<'_> {
         ensures answer { Classing (state self.now.table) a.0 (node_answer result) (state self.now.table) }
     {
         self.table.class(a)
+    }
+
+    /// The rows of the nodes, lent to be read.
+    pub fn nodes(&self) -> Nodes<'_>
+        ensures { result.rows.now ≡ take self.now.table.nodes self.now.table.rows.now }
+    {
+        self.table.only_nodes()
     }
 }

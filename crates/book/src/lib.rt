@@ -10,6 +10,7 @@ pub mod id;
 pub mod layout;
 mod making;
 mod naming;
+pub mod nodes;
 mod room;
 pub mod row;
 pub mod table;

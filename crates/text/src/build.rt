@@ -7,7 +7,7 @@ ghost use Rattle.theory.specs.Builds.{Build, IsBuild, Lawful, depth, text};
 use crate::name::{is_name, name_end};
 
 /// Why a text is not one build of so many levels at most.
-#[derive(Clone, Copy)]
+#[derive(Clone, Copy, Debug, PartialEq, Eq)]
 pub enum BuildFault {
     /// A name, a bracket or a comma is missing or wrong.
     Broken,

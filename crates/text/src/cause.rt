@@ -1,9 +1,10 @@
 // The causes of refusals, by the layer that they belong to, and their numbers.
 ghost use Rattle.std.specs.Prelude.{◌≡◌};
 ghost use Rattle.text.specs.Causes.{number_of};
+ghost use Rattle.text.specs.declared.cause.Layer.TheVariants as layer;
 
 /// What a whole text or a whole line is refused for.
-#[derive(Clone, Copy)]
+#[derive(Clone, Copy, Debug, PartialEq, Eq)]
 pub enum LineCause {
     TextTooLong,
     LineTooLong,
@@ -14,7 +15,7 @@ pub enum LineCause {
 }
 
 /// What one field of a line is refused for.
-#[derive(Clone, Copy)]
+#[derive(Clone, Copy, Debug, PartialEq, Eq)]
 pub enum FieldCause {
     Broken,
     TooDeep,
@@ -22,7 +23,7 @@ pub enum FieldCause {
 }
 
 /// What a book, its lists or its tables refuse.
-#[derive(Clone, Copy)]
+#[derive(Clone, Copy, Debug, PartialEq, Eq)]
 pub enum BookCause {
     NoSymbol,
     NoNode,
@@ -35,11 +36,35 @@ pub enum BookCause {
 }
 
 /// The layer that refuses, with that layer's cause.
-#[derive(Clone, Copy)]
+#[derive(Clone, Copy, Debug, PartialEq, Eq)]
 pub enum Layer {
     Field(FieldCause),
     Line(LineCause),
     Book(BookCause),
+}
+
+impl From<FieldCause> for Layer {
+    ghost from_gives = { λ c l. l ≡ layer.Field c };
+
+    fn from(cause: FieldCause) -> Layer {
+        Layer::Field(cause)
+    }
+}
+
+impl From<LineCause> for Layer {
+    ghost from_gives = { λ c l. l ≡ layer.Line c };
+
+    fn from(cause: LineCause) -> Layer {
+        Layer::Line(cause)
+    }
+}
+
+impl From<BookCause> for Layer {
+    ghost from_gives = { λ c l. l ≡ layer.Book c };
+
+    fn from(cause: BookCause) -> Layer {
+        Layer::Book(cause)
+    }
 }
 
 impl Layer {

@@ -6,7 +6,7 @@ use crate::cause::Layer;
 use crate::refusal::Source;
 
 /// A refused line: its text, its line from 1, its refusal number, its place from 0 in that text, and its layer with the cause.
-#[derive(Clone, Copy)]
+#[derive(Clone, Copy, Debug, PartialEq, Eq)]
 pub struct Fault {
     pub source: Source,
     pub line: u32,

@@ -3,7 +3,7 @@ ghost use Rattle.std.specs.Prelude.{◌≡◌, Decides, MatchOption, ◌≢◌};
 ghost use Rattle.text.specs.Kinds.{version, word, rule_word};
 
 /// What a line is about; its first field is the kind's word.
-#[derive(Clone, Copy)]
+#[derive(Clone, Copy, Debug, PartialEq, Eq)]
 pub enum Kind {
     Log,
     Flex,
@@ -16,7 +16,7 @@ pub enum Kind {
 }
 
 /// The price rule that a sheet picks.
-#[derive(Clone, Copy)]
+#[derive(Clone, Copy, Debug, PartialEq, Eq)]
 pub enum Rule {
     Bill,
     Stock,

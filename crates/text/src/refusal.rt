@@ -2,14 +2,14 @@
 use crate::cause::Layer;
 
 /// The text that a line stands in.
-#[derive(Clone, Copy)]
+#[derive(Clone, Copy, Debug, PartialEq, Eq)]
 pub enum Source {
     Log,
     Sheet,
 }
 
 /// Why a line is refused, and at which place of its text.
-#[derive(Clone, Copy)]
+#[derive(Clone, Copy, Debug, PartialEq, Eq)]
 pub struct Refusal {
     pub layer: Layer,
     pub place: usize,
