@@ -1,51 +1,51 @@
--- The front of some bytes before the first that stops it: one byte more, and the bytes that it takes.
-use Rattle.std.proofs.Common.{◌≡◌, ℕ, ◌+◌, ◌-◌, ◌<◌, ◌≤◌, true, false, cond, not, List, [], ◌∷◌, length, get_or, take, drop, refl, ap, ◌∙◌, arith, length-drop}
-use Rattle.std.proofs.lemmas.List.{at_drop_more, at_drop_all}
-use Rattle.text.specs.Scanning.{stops, front}
-use Rattle.text.specs.declared.scan.Stop.{Stop}
-use Rattle.text.specs.declared.scan.Stop.TheVariants.{NameEnd}
+-- The front of some bytes before the first that passes a test: its length, and the bytes that it takes.
+use Rattle.std.proofs.Common.{◌≡◌, ℕ, ◌+◌, ◌≤◌, Bool, true, false, cond, not, List, [], ◌∷◌, length, take, drop, Option, refl, ap, arith, length-drop}
+use Rattle.std.specs.List.{position_or_len, position}
+use Rattle.std.specs.Option.{unwrap_or}
+use Rattle.std.proofs.lemmas.Grind.{common_steps}
+use Rattle.text.specs.Scanning.{front}
 use Rattle.theory.specs.Names.{name_byte}
 use Rattle.theory.specs.Fronts.{name_run}
 
 -- how many bytes the front has
-abbrev pub span : Stop → List ℕ → ℕ
-span s bs = length (front s bs)
+abbrev pub span : (ℕ → Bool) → List ℕ → ℕ
+span p bs = length (front p bs)
 
-pub span_stops : (s : Stop) (xs : List ℕ) (i : ℕ) → i < length xs → stops s (get_or xs i 0) ≡ true → span s (drop i xs) ≡ 0
-span_stops s xs i h e = at_drop_more (span s) xs i 0 h ∙ (rw e)
-
-pub span_goes : (s : Stop) (xs : List ℕ) (i : ℕ) → i < length xs → stops s (get_or xs i 0) ≡ false
-    → span s (drop i xs) ≡ 1 + span s (drop (i + 1) xs)
-span_goes s xs i h e = at_drop_more (span s) xs i 0 h ∙ (rw e (omega arith))
-
-pub span_ends : (s : Stop) (xs : List ℕ) (i : ℕ) → length xs ≤ i → span s (drop i xs) ≡ 0
-span_ends s xs i h = at_drop_all (span s) xs i h
-
-front_taken : (s : Stop) (bs : List ℕ) → take (span s bs) bs ≡ front s bs
-front_taken s [] = refl
-front_taken s (b ∷ bs) =
-    let P : List ℕ → Type 0 = λ f. take (length f) (b ∷ bs) ≡ f in
-    elim (stops s b) as (λ t. P (cond t [] (b ∷ front s bs))) [ true ↦ refl | false ↦ ap (λ f. b ∷ f) (front_taken s bs) ]
-
--- the bytes up to where the stretch ends are the stretch
-pub front_to : (s : Stop) (xs : List ℕ) (at end : ℕ) → end ≡ at + span s (drop at xs) → take (end - at) (drop at xs) ≡ front s (drop at xs)
-front_to s xs at end e =
-    let n : end - at ≡ span s (drop at xs) = omega arith in
-    ap (λ k. take k (drop at xs)) n ∙ front_taken s (drop at xs)
-
-span_le : (s : Stop) (bs : List ℕ) → span s bs ≤ length bs
-span_le s [] = omega arith
-span_le s (b ∷ bs) =
-    let h = span_le s bs in
-    elim (stops s b) as (λ t. length (cond t [] (b ∷ front s bs)) ≤ length (b ∷ bs)) [ true ↦ omega arith | false ↦ omega arith ]
+span_le : (p : ℕ → Bool) (bs : List ℕ) → span p bs ≤ length bs
+span_le p [] = omega arith
+span_le p (b ∷ bs) =
+    let h = span_le p bs in
+    elim (p b) as (λ t. length (cond t [] (b ∷ front p bs)) ≤ length (b ∷ bs)) [ true ↦ omega arith | false ↦ omega arith ]
 
 -- a stretch ends within its bytes
-pub span_within : (s : Stop) (xs : List ℕ) (at : ℕ) → at ≤ length xs → at + span s (drop at xs) ≤ length xs
-span_within s xs at h = let k = span_le s (drop at xs) in omega (arith, length-drop at xs)
+pub span_within : (p : ℕ → Bool) (xs : List ℕ) (at : ℕ) → at ≤ length xs → at + span p (drop at xs) ≤ length xs
+span_within p xs at h = let k = span_le p (drop at xs) in omega (arith, length-drop at xs)
+
+-- the front is as long as the place of the first byte that passes
+span_position : (p : ℕ → Bool) (xs : List ℕ) → position_or_len p xs ≡ span p xs
+span_position p [] = refl
+span_position p (b ∷ bs) =
+    let more = span_position p bs in
+    elim (p b) as (λ t. cond (not t) (1 + position_or_len p bs) 0 ≡ length (cond t [] (b ∷ front p bs)))
+    [ true ↦ refl | false ↦ omega arith ]
+
+span_found : (p : ℕ → Bool) (xs : List ℕ) (r : Option ℕ) → r ≡ position p xs → unwrap_or r (length xs) ≡ span p xs
+span_found p xs r e = let s = span_position p xs in let l = span_le p xs in grind (arith, common_steps)
+
+front_taken : (p : ℕ → Bool) (bs : List ℕ) → take (span p bs) bs ≡ front p bs
+front_taken p [] = refl
+front_taken p (b ∷ bs) =
+    let P : List ℕ → Type 0 = λ f. take (length f) (b ∷ bs) ≡ f in
+    elim (p b) as (λ t. P (cond t [] (b ∷ front p bs))) [ true ↦ refl | false ↦ ap (λ f. b ∷ f) (front_taken p bs) ]
+
+-- the bytes up to the place that was found, or all where none was, are the front
+pub front_found : (p : ℕ → Bool) (xs : List ℕ) (r : Option ℕ) (end : ℕ) (ys : List ℕ)
+    → r ≡ position p xs → end ≡ unwrap_or r (length xs) → ys ≡ take end xs → ys ≡ front p xs
+front_found p xs r end ys first e t = rw (t, e, span_found p xs r first) (front_taken p xs)
 
 -- the front before the first byte that no name has is the run of name bytes
-pub front_run : (bs : List ℕ) → front NameEnd bs ≡ name_run bs
+pub front_run : (bs : List ℕ) → front (λ b. not (name_byte b)) bs ≡ name_run bs
 front_run [] = refl
 front_run (b ∷ bs) =
-    elim (name_byte b) as (λ t. cond (not t) [] (b ∷ front NameEnd bs) ≡ cond t (b ∷ name_run bs) [])
+    elim (name_byte b) as (λ t. cond (not t) [] (b ∷ front (λ b. not (name_byte b)) bs) ≡ cond t (b ∷ name_run bs) [])
     [ true ↦ ap (λ f. b ∷ f) (front_run bs) | false ↦ refl ]

@@ -1,5 +1,5 @@
 -- The reading and the builds: it reads each lawful build to its end, and what it reads is a lawful build.
-use Rattle.std.proofs.Common.{◌≡◌, ℕ, zero, suc, ◌<◌, ◌≤◌, max, true, false, cond, eqb, leb, ◌⊎◌, List, [], ◌∷◌, ◌++◌, length, get_or, drop, sym, refl, ap, ◌∙◌, subst, inl, inr, ⊎_elim, arith, eqb-true, leb-false, leb-true}
+use Rattle.std.proofs.Common.{◌≡◌, ℕ, zero, suc, ◌<◌, ◌≤◌, max, true, false, cond, eqb, leb, ◌⊎◌, List, [], ◌∷◌, ◌++◌, length, Ok, Err, get_or, drop, sym, refl, ap, ◌∙◌, subst, inl, inr, ⊎_elim, arith, eqb-true, leb-false, leb-true}
 use native.Mathlib.Nat.{le-max_left, le-max_right, max-le}
 use borrow.Author.Tests.{eqb-false}
 use Rattle.theory.specs.Names.{Name, IsName}
@@ -8,12 +8,12 @@ use Rattle.theory.specs.Builds.{Build, alone, one, two, text, depth, Lawful}
 use Rattle.theory.proofs.Runs.{run_split, run_rest}
 use Rattle.theory.proofs.Texts.{text_one, text_two, ended_close, ended_comma}
 use Rattle.text.specs.declared.build.BuildFault.TheVariants.{Broken, TooDeep}
-use Rattle.text.specs.Reading.{Outcome, ends, fails, and_then, named?, opened, closed, followed, parts, reads}
+use Rattle.text.specs.Reading.{Outcome, and_then, named?, opened, closed, followed, parts, reads}
 use Rattle.text.proofs.ReadingSteps.{name_from_test, past_name, opened_none}
 
 -- ---- a lawful build within the levels is read to its end
 
-pub read_whole : (d : ℕ) (u : Build) (ys : List ℕ) → Lawful u → Ended u ys → depth u ≤ d → reads d (text u ++ ys) ≡ ends ys
+pub read_whole : (d : ℕ) (u : Build) (ys : List ℕ) → Lawful u → Ended u ys → depth u ≤ d → reads d (text u ++ ys) ≡ Ok ys
 read_whole zero (alone x) ys m n h = absurd (let none : ⊥ = omega arith in none)
 read_whole zero (one x u) ys m n h = absurd (let none : ⊥ = omega arith in none)
 read_whole zero (two x u v) ys m n h = absurd (let none : ⊥ = omega arith in none)
@@ -45,12 +45,12 @@ pub other_deeper : (d a b : ℕ) → d < max a b → a ≤ d → d < b
 other_deeper d a b h l =
     ⊎_elim (λ q. q) (λ q. let k : max a b ≤ d = max-le l q in absurd (let none : ⊥ = omega arith in none)) (below_or_not d b)
 
-pub read_deep : (d : ℕ) (u : Build) (ys : List ℕ) → Lawful u → Ended u ys → d < depth u → reads d (text u ++ ys) ≡ fails TooDeep
-read_deep zero (alone x) ys m n h = past_name (λ _. fails TooDeep) x ys m n.0
+pub read_deep : (d : ℕ) (u : Build) (ys : List ℕ) → Lawful u → Ended u ys → d < depth u → reads d (text u ++ ys) ≡ Err TooDeep
+read_deep zero (alone x) ys m n h = past_name (λ _. Err TooDeep) x ys m n.0
 read_deep zero (one x u) ys m n h =
-    ap (reads zero) (text_one x u ys) ∙ past_name (λ _. fails TooDeep) x (40 ∷ (text u ++ (41 ∷ ys))) m.0 refl
+    ap (reads zero) (text_one x u ys) ∙ past_name (λ _. Err TooDeep) x (40 ∷ (text u ++ (41 ∷ ys))) m.0 refl
 read_deep zero (two x u v) ys m n h =
-    ap (reads zero) (text_two x u v ys) ∙ past_name (λ _. fails TooDeep) x (40 ∷ (text u ++ (44 ∷ (text v ++ (41 ∷ ys))))) m.0 refl
+    ap (reads zero) (text_two x u v ys) ∙ past_name (λ _. Err TooDeep) x (40 ∷ (text u ++ (44 ∷ (text v ++ (41 ∷ ys))))) m.0 refl
 read_deep (suc d) (alone x) ys m n h = absurd (let none : ⊥ = omega arith in none)
 read_deep (suc d) (one x u) ys m n h =
     let p = read_deep d u (41 ∷ ys) m.1 (ended_close u ys) (omega arith) in
@@ -78,10 +78,10 @@ pub record Front (d : ℕ) (xs ys : List ℕ) : Type 0 where
   pub ended : Ended build ys
   pub whole : xs ≡ text build ++ ys
 
--- a reading that ends has read such a build
+-- a reading that Ok has read such a build
 abbrev pub Fronts : ℕ → List ℕ → Outcome → Type 0
-Fronts d xs (ends ys) = Front d xs ys
-Fronts d xs (fails e) = Unit {0}
+Fronts d xs (Ok ys) = Front d xs ys
+Fronts d xs (Err e) = Unit {0}
 
 abbrev pub AllFronts : ℕ → Type 0
 AllFronts d = (ys : List ℕ) → Fronts d ys (reads d ys)
@@ -118,10 +118,10 @@ front_two d x xs vs ys n f g =
     }
 
 pub fronts_two : (d : ℕ) (x : Name) (xs vs : List ℕ) → IsName x → Front d xs (44 ∷ vs) → (o : Outcome) → Fronts d vs o → Fronts (suc d) (x ++ (40 ∷ xs)) (and_then o closed)
-fronts_two d x xs vs n f (fails e) g = tt
-fronts_two d x xs vs n f (ends []) g = tt
-fronts_two d x xs vs n f (ends (b ∷ bs)) g =
-    elim (eqb b 41) as (λ t. eqb b 41 ≡ t → Fronts (suc d) (x ++ (40 ∷ xs)) (cond t (ends bs) (fails Broken))) [
+fronts_two d x xs vs n f (Err e) g = tt
+fronts_two d x xs vs n f (Ok []) g = tt
+fronts_two d x xs vs n f (Ok (b ∷ bs)) g =
+    elim (eqb b 41) as (λ t. eqb b 41 ≡ t → Fronts (suc d) (x ++ (40 ∷ xs)) (cond t (Ok bs) (Err Broken))) [
       | true ↦ λ q. let P : ℕ → Type 0 = λ k. Front d vs (k ∷ bs) in front_two d x xs vs bs n f (subst P (eqb-true b 41 q) g)
       | false ↦ λ q. tt
     ] refl
@@ -129,7 +129,7 @@ fronts_two d x xs vs n f (ends (b ∷ bs)) g =
 pub fronts_one : (d : ℕ) (x : Name) (xs rs : List ℕ) → IsName x → Front d xs rs → Fronts (suc d) (x ++ (40 ∷ xs)) (closed rs)
 fronts_one d x xs [] n f = tt
 fronts_one d x xs (b ∷ bs) n f =
-    elim (eqb b 41) as (λ t. eqb b 41 ≡ t → Fronts (suc d) (x ++ (40 ∷ xs)) (cond t (ends bs) (fails Broken))) [
+    elim (eqb b 41) as (λ t. eqb b 41 ≡ t → Fronts (suc d) (x ++ (40 ∷ xs)) (cond t (Ok bs) (Err Broken))) [
       | true ↦ λ q. let P : ℕ → Type 0 = λ k. Front d xs (k ∷ bs) in front_one d x xs bs n (subst P (eqb-true b 41 q) f)
       | false ↦ λ q. tt
     ] refl
@@ -146,12 +146,12 @@ fronts_followed d x xs (b ∷ bs) n all f =
 pub fronts_parts : (d : ℕ) (x : Name) (xs : List ℕ) → IsName x → AllFronts d → Fronts (suc d) (x ++ (40 ∷ xs)) (parts (reads d) xs)
 fronts_parts d x xs n all =
     elim (reads d xs) as (λ o. Fronts d xs o → Fronts (suc d) (x ++ (40 ∷ xs)) (and_then o (followed (reads d))))
-    [ ends rs ↦ λ f. fronts_followed d x xs rs n all f | fails e ↦ λ f. tt ] (all xs)
+    [ Ok rs ↦ λ f. fronts_followed d x xs rs n all f | Err e ↦ λ f. tt ] (all xs)
 
 pub fronts_opened : (d : ℕ) (xs rs : List ℕ) → IsName (name_run xs) → drop (length (name_run xs)) xs ≡ rs → AllFronts d → Fronts (suc d) xs (opened (parts (reads d)) rs)
 fronts_opened d xs [] n e all = front_alone d xs [] n e (λ q. omega arith)
 fronts_opened d xs (b ∷ bs) n e all =
-    elim (eqb b 40) as (λ t. eqb b 40 ≡ t → Fronts (suc d) xs (cond t (parts (reads d) bs) (ends (b ∷ bs)))) [
+    elim (eqb b 40) as (λ t. eqb b 40 ≡ t → Fronts (suc d) xs (cond t (parts (reads d) bs) (Ok (b ∷ bs)))) [
       | true ↦ λ q.
           let w : xs ≡ name_run xs ++ (40 ∷ bs) = run_split xs ∙ ap (λ l. name_run xs ++ l) (e ∙ ap (λ k. k ∷ bs) (eqb-true b 40 q)) in
           let P : List ℕ → Type 0 = λ l. Fronts (suc d) l (parts (reads d) bs) in
@@ -159,12 +159,12 @@ fronts_opened d xs (b ∷ bs) n e all =
       | false ↦ λ q. front_alone d xs (b ∷ bs) n e (eqb-false b 40 q)
     ] refl
 
--- every reading that ends has read a lawful build within the levels
+-- every reading that Ok has read a lawful build within the levels
 pub read_front : (d : ℕ) (xs : List ℕ) → Fronts d xs (reads d xs)
 read_front zero xs =
-    elim (named? xs) as (λ t. Fronts zero xs (cond t (fails TooDeep) (fails Broken))) [ true ↦ tt | false ↦ tt ]
+    elim (named? xs) as (λ t. Fronts zero xs (cond t (Err TooDeep) (Err Broken))) [ true ↦ tt | false ↦ tt ]
 read_front (suc d) xs =
-    elim (named? xs) as (λ t. named? xs ≡ t → Fronts (suc d) xs (cond t (opened (parts (reads d)) (drop (length (name_run xs)) xs)) (fails Broken))) [
+    elim (named? xs) as (λ t. named? xs ≡ t → Fronts (suc d) xs (cond t (opened (parts (reads d)) (drop (length (name_run xs)) xs)) (Err Broken))) [
       | true ↦ λ q. fronts_opened d xs (drop (length (name_run xs)) xs) (name_from_test xs q) refl (read_front d)
       | false ↦ λ q. tt
     ] refl

@@ -4,32 +4,32 @@ use Rattle.theory.specs.Builds.{Build, text, depth, Lawful, IsBuild}
 use Rattle.theory.proofs.Texts.{ended_end}
 use Rattle.text.specs.declared.build.BuildFault.{BuildFault}
 use Rattle.text.specs.declared.build.BuildFault.TheVariants.{Broken, TooDeep}
-use Rattle.text.specs.Reading.{Outcome, ends, fails, reads, verdict}
+use Rattle.text.specs.Reading.{Outcome, reads, verdict}
 use Rattle.text.proofs.ReadingLaws.{read_whole, read_deep, Fronts, read_front}
 use Rattle.text.proofs.ReadingLengths.{Short, read_short}
 
 -- a lawful build within the levels leaves nothing
-pub build_ends : (d : ℕ) (u : Build) (xs : List ℕ) → Lawful u → depth u ≤ d → text u ≡ xs → reads d xs ≡ ends []
+pub build_ends : (d : ℕ) (u : Build) (xs : List ℕ) → Lawful u → depth u ≤ d → text u ≡ xs → reads d xs ≡ Ok []
 build_ends d u xs m h e = ap (reads d) (sym e ∙ sym (append-nil (text u))) ∙ read_whole d u [] m (ended_end u) h
 
-pub build_deep : (d : ℕ) (u : Build) (xs : List ℕ) → Lawful u → d < depth u → text u ≡ xs → reads d xs ≡ fails TooDeep
+pub build_deep : (d : ℕ) (u : Build) (xs : List ℕ) → Lawful u → d < depth u → text u ≡ xs → reads d xs ≡ Err TooDeep
 build_deep d u xs m h e = ap (reads d) (sym e ∙ sym (append-nil (text u))) ∙ read_deep d u [] m (ended_end u) h
 
 pub verdict_build : (d : ℕ) (xs : List ℕ) (o : Outcome) → reads d xs ≡ o → Fronts d xs o → MatchResult (verdict o) (λ _. IsBuild d xs) (λ _. IsBuild d xs → ⊥)
-verdict_build d xs (ends []) e f =
+verdict_build d xs (Ok []) e f =
     record { build = f.build; lawful = f.lawful; shallow = f.shallow; whole = sym (f.whole ∙ append-nil (text f.build)) }
-verdict_build d xs (ends (b ∷ bs)) e f = λ i.
+verdict_build d xs (Ok (b ∷ bs)) e f = λ i.
     let k = build_ends d i.build xs i.lawful i.shallow i.whole in
     let z : ◌≡◌ {A = ℕ} 0 1 = cc in omega arith
-verdict_build d xs (fails c) e f = λ i.
+verdict_build d xs (Err c) e f = λ i.
     let k = build_ends d i.build xs i.lawful i.shallow i.whole in
     let z : ◌≡◌ {A = ℕ} 0 1 = cc in omega arith
 
 pub verdict_short : (n : ℕ) (o : Outcome) → Short n o → verdict o ≡ Err TooDeep → ⊥
-verdict_short n (ends []) s e = let z : ◌≡◌ {A = ℕ} 0 1 = cc in omega arith
-verdict_short n (ends (b ∷ bs)) s e = let z : ◌≡◌ {A = ℕ} 0 1 = cc in omega arith
-verdict_short n (fails Broken) s e = let z : ◌≡◌ {A = ℕ} 0 1 = cc in omega arith
-verdict_short n (fails TooDeep) s e = s
+verdict_short n (Ok []) s e = let z : ◌≡◌ {A = ℕ} 0 1 = cc in omega arith
+verdict_short n (Ok (b ∷ bs)) s e = let z : ◌≡◌ {A = ℕ} 0 1 = cc in omega arith
+verdict_short n (Err Broken) s e = let z : ◌≡◌ {A = ℕ} 0 1 = cc in omega arith
+verdict_short n (Err TooDeep) s e = s
 
 -- all that an answer says which is the verdict
 pub record Checked (d : ℕ) (xs : List ℕ) (r : Result (Unit {0}) BuildFault) : Type 0 where

@@ -5,8 +5,7 @@
 -- | chosen  | the text that a fault is of                    |
 -- | stretch | the bytes before the first tab or line feed    |
 use Rattle.std.specs.Prelude.{ℕ, List, codes}
-use Rattle.text.specs.Scanning.{front}
-use Rattle.text.specs.declared.scan.Stop.TheVariants.{TabOrFeed}
+use Rattle.text.specs.Scanning.{front, tab_or_feed}
 use Rattle.text.specs.declared.refusal.Source.{Source}
 use Rattle.text.specs.declared.refusal.Source.TheVariants.{Log, Sheet}
 
@@ -15,7 +14,7 @@ chosen Log log sheet = log
 chosen Sheet log sheet = sheet
 
 abbrev pub stretch : List ℕ → List ℕ
-stretch = front TabOrFeed
+stretch = front tab_or_feed
 
 -- the word by which a printed fault names its text
 abbrev pub source_word : Source → List ℕ

@@ -13,36 +13,34 @@
 -- | parts    | reads one part or two, and the close bracket                                   |
 -- | reads    | reads a build, of so many levels at most                                       |
 -- | verdict  | the answer for a text that is to be read to its end                            |
--- | Tells    | an answer by places in the text is that outcome                                |
-use Rattle.std.specs.Prelude.{◌≡◌, ℕ, zero, suc, ◌≤◌, Bool, false, cond, List, [], ◌∷◌, length, drop, Ok, Err, Result, ◌==◌, nat_le, slice_index}
+use Rattle.std.specs.Prelude.{ℕ, zero, suc, Bool, false, cond, List, [], ◌∷◌, length, drop, Ok, Err, Result, ◌==◌, nat_le, slice_index}
 use Rattle.theory.specs.Names.{letter}
 use Rattle.theory.specs.Fronts.{name_run}
 use Rattle.text.specs.declared.build.BuildFault.{BuildFault}
 use Rattle.text.specs.declared.build.BuildFault.TheVariants.{Broken, TooDeep}
 
-pub data Outcome : Type 0 where
-  ends : List ℕ → Outcome
-  fails : BuildFault → Outcome
+abbrev pub Outcome : Type 0
+Outcome = Result (List ℕ) BuildFault
 
 abbrev pub and_then : Outcome → (List ℕ → Outcome) → Outcome
-and_then (ends ys) next = next ys
-and_then (fails e) next = fails e
+and_then (Ok ys) next = next ys
+and_then (Err e) next = Err e
 
 abbrev pub named? : List ℕ → Bool
 named? xs =
     cond (nat_le 1 (length (name_run xs))) (cond (nat_le (length (name_run xs)) 12) (letter (slice_index xs 0)) false) false
 
 abbrev pub named : (List ℕ → Outcome) → List ℕ → Outcome
-named next xs = cond (named? xs) (next (drop (length (name_run xs)) xs)) (fails Broken)
+named next xs = cond (named? xs) (next (drop (length (name_run xs)) xs)) (Err Broken)
 
 -- 40 is an open bracket, 44 a comma, 41 a close bracket
 abbrev pub opened : (List ℕ → Outcome) → List ℕ → Outcome
-opened inner [] = ends []
-opened inner (b ∷ bs) = cond (b == 40) (inner bs) (ends (b ∷ bs))
+opened inner [] = Ok []
+opened inner (b ∷ bs) = cond (b == 40) (inner bs) (Ok (b ∷ bs))
 
 abbrev pub closed : List ℕ → Outcome
-closed [] = fails Broken
-closed (b ∷ bs) = cond (b == 41) (ends bs) (fails Broken)
+closed [] = Err Broken
+closed (b ∷ bs) = cond (b == 41) (Ok bs) (Err Broken)
 
 abbrev pub followed : (List ℕ → Outcome) → List ℕ → Outcome
 followed part [] = closed []
@@ -53,14 +51,10 @@ parts part xs = and_then (part xs) (followed part)
 
 -- a name is read before its level is counted: what is no name is broken at every depth
 abbrev pub reads : ℕ → List ℕ → Outcome
-reads zero xs = named (λ _. fails TooDeep) xs
+reads zero xs = named (λ _. Err TooDeep) xs
 reads (suc levels) xs = named (opened (parts (reads levels))) xs
 
 abbrev pub verdict : Outcome → Result (Unit {0}) BuildFault
-verdict (ends []) = Ok tt
-verdict (ends (b ∷ bs)) = Err Broken
-verdict (fails e) = Err e
-
-abbrev pub Tells : List ℕ → Outcome → Result ℕ BuildFault → Type 0
-Tells xs o (Ok end) = (end ≤ length xs) × (o ≡ ends (drop end xs))
-Tells xs o (Err e) = o ≡ fails e
+verdict (Ok []) = Ok tt
+verdict (Ok (b ∷ bs)) = Err Broken
+verdict (Err e) = Err e

@@ -1,10 +1,10 @@
 // Builds: whether a text is one, and within how many levels; two readers that call each other.
-ghost use Rattle.std.specs.Prelude.{◌≡◌, ℕ, ◌<◌, ◌≤◌, length, drop, Ok, Err, Decides, MatchResult, ◌≢◌};
-ghost use Rattle.text.specs.Reading.{Tells, closed, parts, reads, verdict};
+ghost use Rattle.std.specs.Prelude.{◌≡◌, ℕ, ◌<◌, ◌≤◌, length, Ok, Err, Decides, MatchResult, ◌≢◌};
+ghost use Rattle.text.specs.Reading.{closed, parts, reads, verdict};
 ghost use Rattle.text.specs.declared.build.BuildFault.TheVariants.{TooDeep};
 ghost use Rattle.theory.specs.Builds.{Build, IsBuild, Lawful, depth, text};
 
-use crate::name::{is_name, name_end};
+use crate::name::{is_name, split_name};
 
 /// Why a text is not one build of so many levels at most.
 #[derive(Clone, Copy, Debug, PartialEq, Eq)]
@@ -15,63 +15,48 @@ pub enum BuildFault {
     TooDeep,
 }
 
-/// The end of the build at `at`.
+/// What is left behind the build that the bytes begin with.
 #[cycle(read_build_read_parts)]
-fn read_build(bytes: &[u8], at: usize, levels: usize) -> Result<usize, BuildFault>
-    requires { at ≤ length bytes.now }
-    ensures { Tells bytes.now (reads levels (drop at bytes.now)) result }
+fn read_build(bytes: &[u8], levels: usize) -> Result<&[u8], BuildFault>
+    ensures { MatchResult result (λ left. reads levels bytes.now ≡ Ok left.now) (λ fault. reads levels bytes.now ≡ Err fault) }
 {
-    let end = name_end(bytes, at);
-    if !is_name(&bytes[at..end]) {
+    let (name, rest) = split_name(bytes);
+    if !is_name(name) {
         return Err(BuildFault::Broken);
     }
-    if levels == 0 {
-        return Err(BuildFault::TooDeep);
+    let below = levels.checked_sub(1).ok_or(BuildFault::TooDeep)?;
+    match rest {
+        [b'(', inner @ ..] => read_parts(inner, below),
+        _ => Ok(rest),
     }
-    if end < bytes.len() && bytes[end] == b'(' {
-        return read_parts(bytes, end + 1, levels - 1);
-    }
-    Ok(end)
 }
 
-/// The place after the close bracket of the parts at `at`.
+/// What is left behind the close bracket of the parts that the bytes begin with.
 #[cycle(read_build_read_parts)]
-fn read_parts(bytes: &[u8], at: usize, levels: usize) -> Result<usize, BuildFault>
-    requires { at ≤ length bytes.now }
-    ensures { Tells bytes.now (parts (reads levels) (drop at bytes.now)) result }
+fn read_parts(bytes: &[u8], levels: usize) -> Result<&[u8], BuildFault>
+    ensures { MatchResult result (λ left. parts (reads levels) bytes.now ≡ Ok left.now) (λ fault. parts (reads levels) bytes.now ≡ Err fault) }
 {
-    let first = read_build(bytes, at, levels)?;
-    if first < bytes.len() && bytes[first] == b',' {
-        let second = read_build(bytes, first + 1, levels)?;
-        return read_close(bytes, second);
+    match read_build(bytes, levels)? {
+        [b',', second @ ..] => read_close(read_build(second, levels)?),
+        rest => read_close(rest),
     }
-    read_close(bytes, first)
 }
 
-/// The place after the close bracket at `at`.
-fn read_close(bytes: &[u8], at: usize) -> Result<usize, BuildFault>
-    requires { at ≤ length bytes.now }
-    ensures { Tells bytes.now (closed (drop at bytes.now)) result }
+/// What is left behind a close bracket.
+fn read_close(bytes: &[u8]) -> Result<&[u8], BuildFault>
+    ensures { MatchResult result (λ left. closed bytes.now ≡ Ok left.now) (λ fault. closed bytes.now ≡ Err fault) }
 {
-    if at < bytes.len() && bytes[at] == b')' {
-        return Ok(at + 1);
-    }
-    Err(BuildFault::Broken)
+    bytes.strip_prefix(b")").ok_or(BuildFault::Broken)
 }
 
 /// Reads the whole text as one build.
 fn read_whole(bytes: &[u8], levels: usize) -> Result<(), BuildFault>
     ensures { result ≡ verdict (reads levels bytes.now) }
 {
-    match read_build(bytes, 0, levels) {
-        Ok(end) => {
-            if end < bytes.len() {
-                Err(BuildFault::Broken)
-            } else {
-                Ok(())
-            }
-        }
-        Err(fault) => Err(fault),
+    if read_build(bytes, levels)?.is_empty() {
+        Ok(())
+    } else {
+        Err(BuildFault::Broken)
     }
 }
 

@@ -4,7 +4,7 @@ ghost use Rattle.text.specs.Citing.{chosen, stretch, source_word};
 
 use crate::fault::Fault;
 use crate::refusal::Source;
-use crate::scan::{Stop, stretch_at};
+use crate::scan::stretch_at;
 
 /// The text that a source names.
 pub fn text_of<'a>(log: &'a [u8], sheet: &'a [u8], source: Source) -> &'a [u8]
@@ -23,7 +23,7 @@ pub fn cited<'a>(log: &'a [u8], sheet: &'a [u8], fault: &Fault) -> &'a [u8]
     stretch_at(
         text_of(log, sheet, fault.source),
         fault.place,
-        Stop::TabOrFeed,
+        |b| b == b'\t' || b == b'\n',
     )
 }
 

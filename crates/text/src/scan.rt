@@ -1,56 +1,21 @@
-// Scanning: the stretch of bytes from a place to the next byte that stops it.
-ghost use Rattle.std.specs.Prelude.{◌≡◌, ◌+◌, ◌-◌, ◌≤◌, length, take, drop};
-ghost use Rattle.text.specs.Scanning.{stops, front};
+// Scanning: the stretch of bytes from a place to the next that a test stops at.
+ghost use Rattle.std.specs.Prelude.{◌≡◌, ℕ, Bool, length, drop};
+ghost use Rattle.text.specs.Scanning.{Computes, front};
 
-use crate::name::is_name_byte;
-
-/// What a stretch of bytes ends before.
-#[derive(Clone, Copy)]
-pub enum Stop {
-    Tab,
-    Feed,
-    TabOrFeed,
-    NameEnd,
-}
-
-impl Stop {
-    /// Whether a byte stops a stretch.
-    fn at(self, b: u8) -> bool
-        ensures { result ≡ stops self b }
-    {
-        match self {
-            Stop::Tab => b == b'\t',
-            Stop::Feed => b == b'\n',
-            Stop::TabOrFeed => b == b'\t' || b == b'\n',
-            Stop::NameEnd => !is_name_byte(b),
-        }
-    }
-}
-
-/// The place of the first byte from `at` on that stops a stretch, or the end.
-pub(crate) fn scan(bytes: &[u8], at: usize, stop: Stop) -> usize
-    requires { at ≤ length bytes.now }
-    ensures end { result ≡ at + length (front stop (drop at bytes.now)) }
-    ensures within { result ≤ length bytes.now }
-    ensures stretch { take (result - at) (drop at bytes.now) ≡ front stop (drop at bytes.now) }
+/// The bytes before the first that `stops` stops at, and the bytes from it on.
+pub(crate) fn split_front<F: Fn(u8) -> bool>(bytes: &[u8], stops: F) -> (&[u8], &[u8])
+    requires { F.IsAlwaysCallable stops }
+    ensures front { (p : ℕ → Bool) → Computes (F.post stops) p → result.0.now ≡ front p bytes.now }
+    ensures rest { result.1.now ≡ drop (length result.0.now) bytes.now }
 {
-    let mut i = at;
-    while i < bytes.len() {
-        if stop.at(bytes[i]) {
-            return i;
-        }
-        i += 1;
-    }
-    i
+    let end = bytes.iter().position(|b| stops(*b)).unwrap_or(bytes.len());
+    bytes.split_at(end)
 }
 
-/// The stretch of bytes from a place on; nothing past the end.
-pub fn stretch_at<'a>(bytes: &'a [u8], at: usize, stop: Stop) -> &'a [u8]
-    ensures { result.now ≡ front stop (drop at bytes.now) }
+/// The stretch of bytes from a place to the next that `stops` stops at; nothing past the end.
+pub fn stretch_at<F: Fn(u8) -> bool>(bytes: &[u8], at: usize, stops: F) -> &[u8]
+    requires { F.IsAlwaysCallable stops }
+    ensures { (p : ℕ → Bool) → Computes (F.post stops) p → result.now ≡ front p (drop at bytes.now) }
 {
-    if at > bytes.len() {
-        return &bytes[0..0];
-    }
-    let end = scan(bytes, at, stop);
-    &bytes[at..end]
+    split_front(bytes.get(at..).unwrap_or(&[]), stops).0
 }
