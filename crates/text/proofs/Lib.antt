@@ -4,3 +4,4 @@ pub mod ReadingSteps
 pub mod ReadingLaws
 pub mod ReadingLengths
 pub mod ReadingVerdicts
+pub mod Words

@@ -3,36 +3,36 @@ ghost use Rattle.std.specs.Prelude.{◌≡◌};
 ghost use Rattle.text.specs.Causes.{number_of};
 ghost use Rattle.text.specs.declared.cause.Layer.TheVariants as layer;
 
-/// What a whole text or a whole line is refused for.
+/// What a whole text or a whole line is refused for, with the refusal's number.
 #[derive(Clone, Copy, Debug, PartialEq, Eq)]
 pub enum LineCause {
-    TextTooLong,
-    LineTooLong,
-    BadByte,
-    UnknownKind,
-    WrongState,
-    WrongCount,
+    TextTooLong = 3,
+    LineTooLong = 4,
+    BadByte = 5,
+    UnknownKind = 6,
+    WrongState = 7,
+    WrongCount = 8,
 }
 
-/// What one field of a line is refused for.
+/// What one field of a line is refused for, with the refusal's number.
 #[derive(Clone, Copy, Debug, PartialEq, Eq)]
 pub enum FieldCause {
-    Broken,
-    TooDeep,
-    WrongTotal,
+    Broken = 9,
+    TooDeep = 10,
+    WrongTotal = 11,
 }
 
-/// What a book, its lists or its tables refuse.
+/// What a book, its lists or its tables refuse, with the refusal's number.
 #[derive(Clone, Copy, Debug, PartialEq, Eq)]
 pub enum BookCause {
-    NoSymbol,
-    NoNode,
-    ListFull,
-    NamesFull,
-    NodesFull,
-    EquationsFull,
-    NotPriced,
-    TooShort,
+    NoSymbol = 1,
+    NoNode = 2,
+    ListFull = 12,
+    NamesFull = 13,
+    NodesFull = 14,
+    EquationsFull = 15,
+    NotPriced = 16,
+    TooShort = 17,
 }
 
 /// The layer that refuses, with that layer's cause.
@@ -67,29 +67,23 @@ impl From<BookCause> for Layer {
     }
 }
 
+impl From<Layer> for u8 {
+    ghost from_gives = { λ l n. n ≡ number_of l };
+
+    fn from(layer: Layer) -> u8 {
+        match layer {
+            Layer::Field(field) => field as u8,
+            Layer::Line(line) => line as u8,
+            Layer::Book(book) => book as u8,
+        }
+    }
+}
+
 impl Layer {
     /// The refusal's number.
     pub fn number(self) -> u8
         ensures { result ≡ number_of self }
     {
-        match self {
-            Layer::Book(BookCause::NoSymbol) => 1,
-            Layer::Book(BookCause::NoNode) => 2,
-            Layer::Line(LineCause::TextTooLong) => 3,
-            Layer::Line(LineCause::LineTooLong) => 4,
-            Layer::Line(LineCause::BadByte) => 5,
-            Layer::Line(LineCause::UnknownKind) => 6,
-            Layer::Line(LineCause::WrongState) => 7,
-            Layer::Line(LineCause::WrongCount) => 8,
-            Layer::Field(FieldCause::Broken) => 9,
-            Layer::Field(FieldCause::TooDeep) => 10,
-            Layer::Field(FieldCause::WrongTotal) => 11,
-            Layer::Book(BookCause::ListFull) => 12,
-            Layer::Book(BookCause::NamesFull) => 13,
-            Layer::Book(BookCause::NodesFull) => 14,
-            Layer::Book(BookCause::EquationsFull) => 15,
-            Layer::Book(BookCause::NotPriced) => 16,
-            Layer::Book(BookCause::TooShort) => 17,
-        }
+        self.into()
     }
 }

@@ -1,10 +1,11 @@
 // What a fault cites: the bytes of its text from its place to the next tab, line feed or end.
 ghost use Rattle.std.specs.Prelude.{◌≡◌, drop};
-ghost use Rattle.text.specs.Citing.{chosen, stretch, source_word};
+ghost use Rattle.text.specs.Citing.{chosen, stretch, source_word, sources, sources-complete};
 
 use crate::fault::Fault;
 use crate::refusal::Source;
 use crate::scan::stretch_at;
+use crate::word::Word;
 
 /// The text that a source names.
 pub fn text_of<'a>(log: &'a [u8], sheet: &'a [u8], source: Source) -> &'a [u8]
@@ -27,11 +28,18 @@ pub fn cited<'a>(log: &'a [u8], sheet: &'a [u8], fault: &Fault) -> &'a [u8]
     )
 }
 
-impl Source {
-    /// The word that names the text.
-    pub fn word(self) -> &'static [u8]
-        ensures { result.now ≡ source_word self }
-    {
+impl Word for Source {
+    ghost spelling = { source_word };
+
+    ghost values = { sources };
+
+    ghost complete = { sources-complete };
+
+    fn all() -> &'static [Source] {
+        &[Source::Log, Source::Sheet]
+    }
+
+    fn word(self) -> &'static [u8] {
         match self {
             Source::Log => b"LOG",
             Source::Sheet => b"SHEET",

@@ -10,6 +10,7 @@ use crate::refusal::Source;
 pub struct Fault {
     pub source: Source,
     pub line: u32,
+    // A fault holds its number, so that who prints it needs no table; `new` makes it the cause's.
     pub number: u8,
     pub place: usize,
     pub layer: Layer,

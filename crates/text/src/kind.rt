@@ -1,6 +1,8 @@
 // The kinds of lines and the price rules, by their words.
-ghost use Rattle.std.specs.Prelude.{◌≡◌, Decides, MatchOption, ◌≢◌};
-ghost use Rattle.text.specs.Kinds.{version, word, rule_word};
+ghost use Rattle.std.specs.Prelude.{◌≡◌, Decides};
+ghost use Rattle.text.specs.Kinds.{version, word, kinds, kinds-complete, rule_word, price_rules, price_rules-complete};
+
+use crate::word::Word;
 
 /// What a line is about; its first field is the kind's word.
 #[derive(Clone, Copy, Debug, PartialEq, Eq)]
@@ -23,56 +25,34 @@ pub enum Rule {
     Steps,
 }
 
-/// Whether two stretches of bytes are the same.
-fn same(a: &[u8], b: &[u8]) -> bool
-    ensures { Decides result (a.now ≡ b.now) }
-{
-    a == b
-}
-
 /// Whether the bytes name the version of logs, which is 1.
 pub fn is_version(bytes: &[u8]) -> bool
     ensures { Decides result (bytes.now ≡ version) }
 {
-    same(bytes, b"1")
+    bytes == b"1".as_slice()
 }
 
-impl Kind {
-    /// The kind that a word names, if any.
-    pub fn of(bytes: &[u8]) -> Option<Kind>
-        ensures { MatchOption result ((k : Kind) → bytes.now ≢ word k) (λ k. bytes.now ≡ word k) }
-    {
-        if same(bytes, b"LOG") {
-            return Some(Kind::Log);
-        }
-        if same(bytes, b"FLEX") {
-            return Some(Kind::Flex);
-        }
-        if same(bytes, b"END") {
-            return Some(Kind::End);
-        }
-        if same(bytes, b"SHEET") {
-            return Some(Kind::Sheet);
-        }
-        if same(bytes, b"COST") {
-            return Some(Kind::Cost);
-        }
-        if same(bytes, b"STOCK") {
-            return Some(Kind::Stock);
-        }
-        if same(bytes, b"PAIR") {
-            return Some(Kind::Pair);
-        }
-        if same(bytes, b"BEST") {
-            return Some(Kind::Best);
-        }
-        None
+impl Word for Kind {
+    ghost spelling = { word };
+
+    ghost values = { kinds };
+
+    ghost complete = { kinds-complete };
+
+    fn all() -> &'static [Kind] {
+        &[
+            Kind::Log,
+            Kind::Flex,
+            Kind::End,
+            Kind::Sheet,
+            Kind::Cost,
+            Kind::Stock,
+            Kind::Pair,
+            Kind::Best,
+        ]
     }
 
-    /// The kind's word.
-    pub fn word(self) -> &'static [u8]
-        ensures { result.now ≡ word self }
-    {
+    fn word(self) -> &'static [u8] {
         match self {
             Kind::Log => b"LOG",
             Kind::Flex => b"FLEX",
@@ -86,20 +66,22 @@ impl Kind {
     }
 }
 
-impl Rule {
-    /// The price rule that a word names, if any.
-    pub fn of(bytes: &[u8]) -> Option<Rule>
-        ensures { MatchOption result ((k : Rule) → bytes.now ≢ rule_word k) (λ k. bytes.now ≡ rule_word k) }
-    {
-        if same(bytes, b"bill") {
-            return Some(Rule::Bill);
+impl Word for Rule {
+    ghost spelling = { rule_word };
+
+    ghost values = { price_rules };
+
+    ghost complete = { price_rules-complete };
+
+    fn all() -> &'static [Rule] {
+        &[Rule::Bill, Rule::Stock, Rule::Steps]
+    }
+
+    fn word(self) -> &'static [u8] {
+        match self {
+            Rule::Bill => b"bill",
+            Rule::Stock => b"stock",
+            Rule::Steps => b"steps",
         }
-        if same(bytes, b"stock") {
-            return Some(Rule::Stock);
-        }
-        if same(bytes, b"steps") {
-            return Some(Rule::Steps);
-        }
-        None
     }
 }

@@ -9,3 +9,4 @@ pub mod kind;
 pub mod name;
 pub mod refusal;
 pub mod scan;
+pub mod word;

@@ -13,6 +13,7 @@ pub(crate) fn split_front<F: Fn(u8) -> bool>(bytes: &[u8], stops: F) -> (&[u8], 
 }
 
 /// The stretch of bytes from a place to the next that `stops` stops at; nothing past the end.
+// The `requires` is what any call of a closure asks; `stops` is a test of a byte, which each caller writes out.
 pub fn stretch_at<F: Fn(u8) -> bool>(bytes: &[u8], at: usize, stops: F) -> &[u8]
     requires { F.IsAlwaysCallable stops }
     ensures { (p : ℕ → Bool) → Computes (F.post stops) p → result.now ≡ front p (drop at bytes.now) }
