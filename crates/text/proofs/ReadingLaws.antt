@@ -1,6 +1,6 @@
 -- The reading and the builds: it reads each lawful build to its end, and what it reads is a lawful build.
-use Rattle.std.proofs.Common.{◌≡◌, ℕ, zero, suc, ◌<◌, ◌≤◌, max, true, false, cond, eqb, leb, ◌⊎◌, List, [], ◌∷◌, ◌++◌, length, Ok, Err, get_or, drop, sym, refl, ap, ◌∙◌, subst, inl, inr, ⊎_elim, arith, eqb-true, leb-false, leb-true}
-use native.Mathlib.Nat.{le-max_left, le-max_right, max-le}
+use Rattle.std.proofs.Common.{◌≡◌, ℕ, zero, suc, ◌<◌, ◌≤◌, true, false, cond, eqb, List, [], ◌∷◌, ◌++◌, length, Ok, Err, get_or, drop, sym, refl, ap, ◌∙◌, subst, ⊎_elim, arith, eqb-true}
+use Rattle.std.proofs.lemmas.Bool.{cases_lt}
 use borrow.Author.Tests.{eqb-false}
 use Rattle.theory.specs.Names.{Name, IsName}
 use Rattle.theory.specs.Fronts.{name_run, Ended}
@@ -14,9 +14,9 @@ use Rattle.text.proofs.ReadingSteps.{name_from_test, past_name, opened_none}
 -- ---- a lawful build within the levels is read to its end
 
 pub read_whole : (d : ℕ) (u : Build) (ys : List ℕ) → Lawful u → Ended u ys → depth u ≤ d → reads d (text u ++ ys) ≡ Ok ys
-read_whole zero (alone x) ys m n h = absurd (let none : ⊥ = omega arith in none)
-read_whole zero (one x u) ys m n h = absurd (let none : ⊥ = omega arith in none)
-read_whole zero (two x u v) ys m n h = absurd (let none : ⊥ = omega arith in none)
+read_whole zero (alone x) ys m n h = absurd (omega arith)
+read_whole zero (one x u) ys m n h = absurd (omega arith)
+read_whole zero (two x u v) ys m n h = absurd (omega arith)
 read_whole (suc d) (alone x) ys m n h =
     past_name (opened (parts (reads d))) x ys m n.0 ∙ opened_none (parts (reads d)) ys n.1
 read_whole (suc d) (one x u) ys m n h =
@@ -25,8 +25,6 @@ read_whole (suc d) (one x u) ys m n h =
     ∙ past_name (opened (parts (reads d))) x (40 ∷ (text u ++ (41 ∷ ys))) m.0 refl
     ∙ ap (λ o. and_then o (followed (reads d))) p
 read_whole (suc d) (two x u v) ys m n h =
-    let i : depth u ≤ max (depth u) (depth v) = le-max_left _ _ in
-    let j : depth v ≤ max (depth u) (depth v) = le-max_right _ _ in
     let p = read_whole d u (44 ∷ (text v ++ (41 ∷ ys))) m.1 (ended_comma u _) (omega arith) in
     let q = read_whole d v (41 ∷ ys) m.2 (ended_close v ys) (omega arith) in
     ap (reads (suc d)) (text_two x u v ys)
@@ -36,22 +34,13 @@ read_whole (suc d) (two x u v) ys m n h =
 
 -- ---- a deeper one is too deep, and never broken
 
-pub below_or_not : (a b : ℕ) → (a < b) ⊎ (b ≤ a)
-below_or_not a b =
-    elim (leb b a) as (λ t. leb b a ≡ t → (a < b) ⊎ (b ≤ a))
-    [ true ↦ λ e. inr (leb-true b a e) | false ↦ λ e. inl (leb-false b a e) ] refl
-
-pub other_deeper : (d a b : ℕ) → d < max a b → a ≤ d → d < b
-other_deeper d a b h l =
-    ⊎_elim (λ q. q) (λ q. let k : max a b ≤ d = max-le l q in absurd (let none : ⊥ = omega arith in none)) (below_or_not d b)
-
 pub read_deep : (d : ℕ) (u : Build) (ys : List ℕ) → Lawful u → Ended u ys → d < depth u → reads d (text u ++ ys) ≡ Err TooDeep
 read_deep zero (alone x) ys m n h = past_name (λ _. Err TooDeep) x ys m n.0
 read_deep zero (one x u) ys m n h =
     ap (reads zero) (text_one x u ys) ∙ past_name (λ _. Err TooDeep) x (40 ∷ (text u ++ (41 ∷ ys))) m.0 refl
 read_deep zero (two x u v) ys m n h =
     ap (reads zero) (text_two x u v ys) ∙ past_name (λ _. Err TooDeep) x (40 ∷ (text u ++ (44 ∷ (text v ++ (41 ∷ ys))))) m.0 refl
-read_deep (suc d) (alone x) ys m n h = absurd (let none : ⊥ = omega arith in none)
+read_deep (suc d) (alone x) ys m n h = absurd (omega arith)
 read_deep (suc d) (one x u) ys m n h =
     let p = read_deep d u (41 ∷ ys) m.1 (ended_close u ys) (omega arith) in
     ap (reads (suc d)) (text_one x u ys)
@@ -63,10 +52,9 @@ read_deep (suc d) (two x u v) ys m n h =
     ∙ ⊎_elim
     (λ l. ap (λ o. and_then o (followed (reads d))) (read_deep d u (44 ∷ (text v ++ (41 ∷ ys))) m.1 (ended_comma u _) l))
     (λ l.
-    let e : d < depth v = other_deeper d (depth u) (depth v) (omega arith) l in
     ap (λ o. and_then o (followed (reads d))) (read_whole d u (44 ∷ (text v ++ (41 ∷ ys))) m.1 (ended_comma u _) l)
-    ∙ ap (λ o. and_then o closed) (read_deep d v (41 ∷ ys) m.2 (ended_close v ys) e))
-    (below_or_not d (depth u))
+    ∙ ap (λ o. and_then o closed) (read_deep d v (41 ∷ ys) m.2 (ended_close v ys) (omega arith)))
+    (cases_lt d (depth u))
 
 -- ---- what is read is a lawful build within the levels
 
@@ -108,7 +96,6 @@ front_one d x xs ys n f =
 
 pub front_two : (d : ℕ) (x : Name) (xs vs ys : List ℕ) → IsName x → Front d xs (44 ∷ vs) → Front d vs (41 ∷ ys) → Front (suc d) (x ++ (40 ∷ xs)) ys
 front_two d x xs vs ys n f g =
-    let m : max (depth f.build) (depth g.build) ≤ d = max-le f.shallow g.shallow in
     record {
       build = two x f.build g.build;
       lawful = (n, f.lawful, g.lawful);

@@ -53,7 +53,7 @@ short_opened d (b ∷ bs) all h =
 -- a text no longer than the levels is never too deep
 pub read_short : (d : ℕ) (xs : List ℕ) → length xs ≤ d → Short (length xs) (reads d xs)
 read_short zero [] h = tt
-read_short zero (b ∷ bs) h = absurd (let none : ⊥ = omega arith in none)
+read_short zero (b ∷ bs) h = absurd (omega arith)
 read_short (suc d) xs h =
     let rest = drop (length (name_run xs)) xs in
     elim (named? xs) as (λ t. named? xs ≡ t → Short (length xs) (cond t (opened (parts (reads d)) rest) (Err Broken))) [

@@ -50,7 +50,7 @@ reads_broken (suc d) ys none = named_fails (opened (parts (reads d))) ys none
 -- a name is read, and there is a level for it
 pub name_read : (d : ℕ) (xs name rest : List ℕ)
     → 1 ≤ d → name ≡ name_run xs → rest ≡ drop (length name) xs → IsName name → reads d xs ≡ opened (parts (reads (d - 1))) rest
-name_read zero xs name rest h e r n = absurd (let none : ⊥ = omega arith in none)
+name_read zero xs name rest h e r n = absurd (omega arith)
 name_read (suc d) xs name rest h e r n =
     let k : suc d - 1 ≡ d = omega arith in
     let P : List ℕ → Type 0 = λ l. IsName l in
@@ -58,7 +58,7 @@ name_read (suc d) xs name rest h e r n =
 
 -- and a bracket opens behind it
 pub opened_some : (inner : List ℕ → Outcome) (ys : List ℕ) → 1 ≤ length ys → get_or ys 0 0 ≡ 40 → opened inner ys ≡ inner (take (length ys - 1) (drop 1 ys))
-opened_some inner [] h e = absurd (let none : ⊥ = omega arith in none)
+opened_some inner [] h e = absurd (omega arith)
 opened_some inner (b ∷ bs) h e = rw (e, take_all (length (b ∷ bs) - 1) bs (omega arith))
 
 pub opened_none : (inner : List ℕ → Outcome) (ys : List ℕ) → (get_or ys 0 0 ≡ 40 → ⊥) → opened inner ys ≡ Ok ys

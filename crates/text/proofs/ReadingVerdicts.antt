@@ -1,5 +1,5 @@
 -- What the verdict on a whole text says of builds.
-use Rattle.std.proofs.Common.{◌≡◌, ℕ, ◌<◌, ◌≤◌, List, [], ◌∷◌, length, Ok, Err, Result, sym, refl, ap, ◌∙◌, subst, append-nil, arith, MatchResult}
+use Rattle.std.proofs.Common.{◌≡◌, ℕ, ◌<◌, ◌≤◌, List, [], ◌∷◌, length, Ok, Err, Result, sym, refl, ap, ◌∙◌, subst, append-nil, MatchResult}
 use Rattle.theory.specs.Builds.{Build, text, depth, Lawful, IsBuild}
 use Rattle.theory.proofs.Texts.{ended_end}
 use Rattle.text.specs.declared.build.BuildFault.{BuildFault}
@@ -20,15 +20,15 @@ verdict_build d xs (Ok []) e f =
     record { build = f.build; lawful = f.lawful; shallow = f.shallow; whole = sym (f.whole ∙ append-nil (text f.build)) }
 verdict_build d xs (Ok (b ∷ bs)) e f = λ i.
     let k = build_ends d i.build xs i.lawful i.shallow i.whole in
-    let z : ◌≡◌ {A = ℕ} 0 1 = cc in omega arith
+    cc
 verdict_build d xs (Err c) e f = λ i.
     let k = build_ends d i.build xs i.lawful i.shallow i.whole in
-    let z : ◌≡◌ {A = ℕ} 0 1 = cc in omega arith
+    cc
 
 pub verdict_short : (n : ℕ) (o : Outcome) → Short n o → verdict o ≡ Err TooDeep → ⊥
-verdict_short n (Ok []) s e = let z : ◌≡◌ {A = ℕ} 0 1 = cc in omega arith
-verdict_short n (Ok (b ∷ bs)) s e = let z : ◌≡◌ {A = ℕ} 0 1 = cc in omega arith
-verdict_short n (Err Broken) s e = let z : ◌≡◌ {A = ℕ} 0 1 = cc in omega arith
+verdict_short n (Ok []) s e = cc
+verdict_short n (Ok (b ∷ bs)) s e = cc
+verdict_short n (Err Broken) s e = cc
 verdict_short n (Err TooDeep) s e = s
 
 -- all that an answer says which is the verdict

@@ -11,6 +11,7 @@ returns g c =
     let spelling = g.Self.Word.spelling in
     let values = c.all.result.now in
     let complete : (v : _) → Contains values v = λ v. rw c.all.ensures (g.met.Self.Word.complete v) in
-    rw c.copied.ensures
-    (named_by bytes spelling values complete c.find.result
-    (first_from_find _ _ c.find.result (λ v. bytes ≡ spelling v) (λ v. bytes ≢ spelling v) c.find.ensures.ran (YieldsList-from_slice values c.iter.ensures.rest) (λ x q k. search (rules, tests)) (λ x q k. search (rules, tests))))
+    let named =
+    named_by bytes spelling values complete c.find.result
+    (first_from_find _ _ c.find.result (λ v. bytes ≡ spelling v) (λ v. bytes ≢ spelling v) c.find.ensures.ran (YieldsList-from_slice values c.iter.ensures.rest) (λ x q k. search (rules, tests)) (λ x q k. search (rules, tests))) in
+    search rules
