@@ -2,19 +2,19 @@
 use Rattle.std.proofs.Common.{◌≡◌, ℕ, ◌+◌, ◌<◌, ◌≤◌, true, false, cond, eqb, List, [], ◌∷◌, length, drop, sym, refl, ap, ◌∙◌, arith}
 use Rattle.std.proofs.lemmas.List.{drop-drop, drop_more, drop_all}
 use Rattle.records.specs.Fields.{field, longer, fields, after}
-use Rattle.text.specs.declared.scan.Stop.TheVariants.{Tab}
+use Rattle.text.specs.Scanning.{tab}
 use Rattle.text.proofs.Fronts.{span}
 
 -- the first field, and then the others
-pub fields_split : (xs : List ℕ) → fields xs ≡ field xs ∷ after (drop (span Tab xs) xs)
+pub fields_split : (xs : List ℕ) → fields xs ≡ field xs ∷ after (drop (span tab xs) xs)
 fields_split [] = refl
 fields_split (b ∷ bs) =
     elim (eqb b 9) as
     (λ t. cond t ([] ∷ fields bs) (longer b (fields bs)) ≡ cond t [] (b ∷ field bs) ∷ after (drop (length (cond t [] (b ∷ field bs))) (b ∷ bs)))
     [ true ↦ refl | false ↦ ap (longer b) (fields_split bs) ]
 
-pub fields_at : (xs : List ℕ) (at : ℕ) → fields (drop at xs) ≡ field (drop at xs) ∷ after (drop (at + span Tab (drop at xs)) xs)
-fields_at xs at = fields_split (drop at xs) ∙ ap (λ l. field (drop at xs) ∷ after l) (drop-drop (span Tab (drop at xs)) at xs)
+pub fields_at : (xs : List ℕ) (at : ℕ) → fields (drop at xs) ≡ field (drop at xs) ∷ after (drop (at + span tab (drop at xs)) xs)
+fields_at xs at = fields_split (drop at xs) ∙ ap (λ l. field (drop at xs) ∷ after l) (drop-drop (span tab (drop at xs)) at xs)
 
 pub after_at : (xs : List ℕ) (at : ℕ) → at < length xs → after (drop at xs) ≡ fields (drop (at + 1) xs)
 after_at xs at h = ap after (drop_more xs at 0 h)

@@ -10,8 +10,7 @@
 -- | Two    | some fields are two fields of two forms, each at its place               |
 use Rattle.std.specs.Prelude.{◌≡◌, ℕ, ◌+◌, ◌≤◌, cond, List, [], ◌∷◌, length, drop, ◌==◌}
 use Rattle.records.specs.Forms.{Fits, Deep}
-use Rattle.text.specs.Scanning.{front}
-use Rattle.text.specs.declared.scan.Stop.TheVariants.{Tab}
+use Rattle.text.specs.Scanning.{front, tab}
 use Rattle.text.specs.declared.cause.Layer.TheVariants as layer
 use Rattle.text.specs.declared.cause.LineCause.TheVariants.{WrongCount}
 use Rattle.records.specs.declared.field.Field.{Field}
@@ -19,7 +18,7 @@ use Rattle.records.specs.declared.form.Form.{Form}
 use Rattle.text.specs.declared.refusal.Refusal.{Refusal}
 
 abbrev pub field : List ℕ → List ℕ
-field = front Tab
+field = front tab
 
 -- one more byte in front of the first field
 abbrev pub longer : ℕ → List (List ℕ) → List (List ℕ)

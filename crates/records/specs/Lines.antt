@@ -9,15 +9,14 @@
 use Rattle.std.specs.Prelude.{◌≡◌, ℕ, ◌<◌, cond, ◌⊎◌, List, [], ◌∷◌, ◌++◌, length, ◌==◌, ◌≢◌, nat_le, slice_index}
 use mathlib.Core.List.{Memᴰ}
 use Rattle.records.specs.Fields.{longer}
-use Rattle.text.specs.Scanning.{front}
-use Rattle.text.specs.declared.scan.Stop.TheVariants.{Feed}
+use Rattle.text.specs.Scanning.{front, feed}
 
 -- the most bytes that a text may have
 abbrev pub longest_text : ℕ
 longest_text = 32768
 
 abbrev pub line : List ℕ → List ℕ
-line = front Feed
+line = front feed
 
 abbrev pub lines : List ℕ → List (List ℕ)
 lines [] = []

@@ -7,7 +7,7 @@ ghost use Rattle.records.specs.Judging.{FirstBreak, FieldBreaks, broken, too_dee
 use crate::form::{Form, fits, nested};
 use text::cause::{FieldCause, Layer, LineCause};
 use text::refusal::Refusal;
-use text::scan::{Stop, stretch_at};
+use text::scan::stretch_at;
 
 /// A field: its bytes, and the place of its first byte in the text.
 #[derive(Clone, Copy)]
@@ -31,7 +31,7 @@ pub(crate) fn field_at<'a>(line: &'a [u8], start: usize, at: usize) -> Field<'a>
     ensures { Taken start line.now at (fields (drop at line.now)) result }
 {
     Field {
-        bytes: stretch_at(line, at, Stop::Tab),
+        bytes: stretch_at(line, at, |b| b == b'\t'),
         place: start + at,
     }
 }

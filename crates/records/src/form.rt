@@ -6,6 +6,7 @@ use crate::number::{is_number, is_number_to};
 use text::build::{is_build, too_deep};
 use text::kind::{Rule, is_version};
 use text::name::is_name;
+use text::word::Word;
 
 /// The deepest build that a line may have, a name alone being 1.
 pub const DEEPEST: usize = 32;

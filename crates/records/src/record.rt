@@ -14,6 +14,7 @@ use crate::number::value_of;
 use text::cause::{Layer, LineCause};
 use text::kind::{Kind, Rule};
 use text::refusal::Refusal;
+use text::word::Word;
 
 /// The most bytes that a line may have, its line feed not counted.
 pub const LONGEST_LINE: usize = 256;

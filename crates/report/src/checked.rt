@@ -10,6 +10,7 @@ use records::record::Record;
 use text::cause::BookCause;
 use text::fault::Fault;
 use text::kind::Kind;
+use text::word::Word;
 
 /// How many of the cited bytes are printed at most: as many as a line may have.
 pub const QUOTED: usize = 256;
