@@ -5,7 +5,7 @@ ghost use Rattle.records.specs.Forms.{Fits, forms};
 ghost use Rattle.records.specs.Judging.{line_byte, FirstBad, Breaks, FieldBreaks, FirstBreak, Unbroken};
 ghost use Rattle.text.specs.Kinds.{word, rule_word};
 ghost use Rattle.records.specs.Numbers.{IsNumber, value};
-ghost use Rattle.records.specs.Records.{Headed, Granted, Reads, NumberIn};
+ghost use Rattle.records.specs.Records.{kind_of, Headed, Granted, Reads, NumberIn};
 ghost use Rattle.records.specs.declared.form.Form.TheVariants as form;
 
 use crate::field::{Field, Number, field_at, one_field, two_fields};
@@ -29,6 +29,24 @@ pub enum Record<'a> {
     Stock { name: Field<'a> },
     Pair { left: Field<'a>, right: Field<'a> },
     Best { build: Field<'a> },
+}
+
+impl Record<'_> {
+    /// The kind of the line.
+    pub fn kind(&self) -> Kind
+        ensures { result ≡ kind_of self.now }
+    {
+        match self {
+            Record::Log { .. } => Kind::Log,
+            Record::Flex { .. } => Kind::Flex,
+            Record::End { .. } => Kind::End,
+            Record::Sheet { .. } => Kind::Sheet,
+            Record::Cost { .. } => Kind::Cost,
+            Record::Stock { .. } => Kind::Stock,
+            Record::Pair { .. } => Kind::Pair,
+            Record::Best { .. } => Kind::Best,
+        }
+    }
 }
 
 /// Whether a byte may stand in a line: a tab, or 33 to 126.
