@@ -1,9 +1,12 @@
 -- From the fields behind a kind word to the whole line: what is granted, and which refusal comes first.
-use Rattle.std.proofs.Common.{◌≡◌, ℕ, ◌+◌, ◌*◌, cond, eqb, List, ◌∷◌, length, get_or, drop, IfOk, Ok, Err, Result, sym, refl, ap, ◌∙◌, subst, arith, MatchResult}
+use Rattle.std.proofs.Common.{◌≡◌, ℕ, ◌+◌, ◌-◌, ◌*◌, ◌<◌, ◌≤◌, ◌≢◌, cond, eqb, List, ◌∷◌, length, get_or, take, drop, Some, None, Option, Ok, Err, Result, MatchOption, sym, refl, ap, ◌∙◌, subst, arith, MatchResult}
+use Rattle.std.proofs.lemmas.List.{take_rest}
+use Rattle.std.specs.Option.{ok_or}
+use Rattle.text.specs.Causes.{number_of}
 use Rattle.text.specs.Kinds.{word}
 use Rattle.records.specs.Forms.{forms}
-use Rattle.records.specs.Fields.{fields, after}
-use Rattle.records.specs.Judging.{FieldBreaks, BreaksBehind, Breaks, FirstBreak, Unbroken}
+use Rattle.records.specs.Fields.{field, fields, after}
+use Rattle.records.specs.Judging.{longest_line, FirstBad, FieldBreaks, BreaksBehind, Breaks, FirstBreak, Unbroken}
 use Rattle.records.specs.Records.{Headed, Granted, Reads}
 use Rattle.text.specs.declared.kind.Kind.{Kind}
 use Rattle.text.specs.declared.kind.Kind.TheVariants as kind
@@ -13,6 +16,7 @@ use Rattle.text.specs.declared.cause.Layer.{Layer}
 use Rattle.text.specs.declared.cause.Layer.TheVariants.{Field, Line, Book}
 use Rattle.records.specs.declared.record.Record.{Record}
 use Rattle.text.specs.declared.refusal.Refusal.{Refusal}
+use Rattle.records.proofs.Splits.{fields_split, next_within}
 
 -- two kinds do not have one word: its first two letters tell the kind
 abbrev told : List ℕ → Kind
@@ -77,20 +81,56 @@ lowered start xs k h (Field TooDeep) place b = behind start xs k _ h.headed (Fie
 lowered start xs k h (Field WrongTotal) place b = b
 lowered start xs k h (Book c) place b = b
 
--- the answer for the fields is the answer for the line
-pub whole_line : (start : ℕ) (xs : List ℕ) (k : Kind) (at : ℕ) → at ≡ length (word k) → Headed start xs k → (r : Result Record Refusal)
-    → MatchResult r (Granted start k (after (drop at xs))) (FirstBreak (FieldBreaks start (forms k) (after (drop at xs)) (start + at + 1)))
-    → IfOk r (Reads start xs) × MatchResult r (λ _. Unbroken (Breaks start xs)) (FirstBreak (Breaks start xs))
-whole_line start xs k at e h (Ok d) g =
-    let P : ℕ → Type 0 = λ n. Granted start k (after (drop n xs)) d in
-    let f = subst P e g in
-    (record { whole = h.headed ∙ f.whole; placed = f.placed; meant = f.meant }, λ c place b. f.unbroken c place (lowered start xs k h c place b))
-whole_line start xs k at e h (Err x) g =
-    let P : ℕ → Type 0 = λ n. FirstBreak (FieldBreaks start (forms k) (after (drop n xs)) (start + n + 1)) x in
-    let f = subst P e g in (
-      tt,
-      record {
-        breaks = raised start xs k _ h.headed x.layer x.place f.breaks;
-        first = λ c place lt b. f.first c place lt (lowered start xs k h c place b);
-      },
+-- what the first field says of a line that is neither too long nor has a bad byte
+below_unknown : (start : ℕ) (xs : List ℕ) → length xs ≤ longest_line → ((place : ℕ) → FirstBad start xs place → ⊥)
+    → (c : Layer) (place : ℕ) → number_of c < 6 → Breaks start xs c place → ⊥
+below_unknown start xs short clean (Line TextTooLong) place h b = b
+below_unknown start xs short clean (Line LineTooLong) place h b = omega (arith, b.0)
+below_unknown start xs short clean (Line BadByte) place h b = clean place b
+below_unknown start xs short clean (Line UnknownKind) place h b = omega arith
+below_unknown start xs short clean (Line WrongState) place h b = b
+below_unknown start xs short clean (Line WrongCount) place h b = omega arith
+below_unknown start xs short clean (Field Broken) place h b = omega arith
+below_unknown start xs short clean (Field TooDeep) place h b = omega arith
+below_unknown start xs short clean (Field WrongTotal) place h b = b
+below_unknown start xs short clean (Book c) place h b = b
+
+pub kind_told : (start : ℕ) (xs w : List ℕ) (l : Layer) (o : Option Kind) (r : Result Kind Refusal) → length xs ≤ longest_line
+    → ((place : ℕ) → FirstBad start xs place → ⊥) → w ≡ field xs → l ≡ Line UnknownKind
+    → MatchOption o ((k : Kind) → w ≢ word k) (λ k. w ≡ word k) → r ≡ ok_or o (record { layer = l; place = start })
+    → MatchResult r (Headed start xs) (FirstBreak (Breaks start xs))
+kind_told start xs w l (Some k) r short clean d u m e =
+    let f : field xs ≡ word k = sym d ∙ m in
+    rw e (
+    record {
+      short = short;
+      clean = clean;
+      within = omega (arith, ap length f, next_within xs (field xs) refl);
+      headed = fields_split xs ∙ ap (λ t. t ∷ after (drop (length t) xs)) f;
+    }
     )
+kind_told start xs w l None r short clean d u m e =
+    rw (e, u) (
+    record {
+      breaks = (λ k fs g. let t = fields_split xs in m k (let q : field xs ≡ word k = cc in d ∙ q), refl);
+      first = below_unknown start xs short clean;
+    }
+    )
+
+-- the answer for the fields is the answer for the line
+pub whole_line : (start : ℕ) (xs : List ℕ) (k : Kind) (n : ℕ) → n ≡ length (word k) → Headed start xs k → (r : Result Record Refusal)
+    → MatchResult r (Granted start k (after (take (length xs - n) (drop n xs)))) (FirstBreak (FieldBreaks start (forms k) (after (take (length xs - n) (drop n xs))) (start + n + 1)))
+    → MatchResult r (λ d. Reads start xs d × Unbroken (Breaks start xs)) (FirstBreak (Breaks start xs))
+whole_line start xs k n e h (Ok d) g =
+    let P : ℕ → Type 0 = λ m. Granted start k (after (take (length xs - m) (drop m xs))) d in
+    let Q : List ℕ → Type 0 = λ ys. Granted start k (after ys) d in
+    let f = subst Q (take_rest xs (length (word k))) (subst P e g) in
+    (record { whole = h.headed ∙ f.whole; placed = f.placed; meant = f.meant }, λ c place b. f.unbroken c place (lowered start xs k h c place b))
+whole_line start xs k n e h (Err x) g =
+    let P : ℕ → Type 0 = λ m. FirstBreak (FieldBreaks start (forms k) (after (take (length xs - m) (drop m xs))) (start + m + 1)) x in
+    let Q : List ℕ → Type 0 = λ ys. FirstBreak (FieldBreaks start (forms k) (after ys) (start + length (word k) + 1)) x in
+    let f = subst Q (take_rest xs (length (word k))) (subst P e g) in
+    record {
+      breaks = raised start xs k _ h.headed x.layer x.place f.breaks;
+      first = λ c place lt b. f.first c place lt (lowered start xs k h c place b);
+    }

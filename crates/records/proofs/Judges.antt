@@ -1,17 +1,18 @@
 -- A refusal comes first where no refusal with a lower number has its condition: the conditions, one by one.
-use Rattle.std.proofs.Common.{◌≡◌, ℕ, ◌+◌, ◌<◌, List, [], ◌∷◌, length, sym, refl, ap, ◌∙◌, subst, inl, inr, ⊎_elim, arith}
+use Rattle.std.proofs.Common.{◌≡◌, ℕ, ◌+◌, ◌<◌, ◌⊎◌, List, [], ◌∷◌, length, Ok, Err, Result, MatchResult, sym, subst, inl, inr, arith}
 use Rattle.text.specs.Causes.{number_of}
-use Rattle.records.specs.Forms.{Fits, Unfit, Deep}
-use Rattle.records.specs.Fields.{wrong_count}
-use Rattle.records.specs.Judging.{Leftmost, FieldBreaks, FirstBreak, broken, too_deep}
+use Rattle.records.specs.Forms.{Unfit, Deep, Bad, Fine, AllFine, Checked}
+use Rattle.records.specs.Judging.{Leftmost, FieldBreaks, FirstBreak}
+use Rattle.text.specs.declared.cause.FieldCause.{FieldCause}
 use Rattle.records.specs.declared.form.Form.{Form}
 use Rattle.text.specs.declared.cause.LineCause.TheVariants.{TextTooLong, LineTooLong, BadByte, UnknownKind, WrongState, WrongCount}
 use Rattle.text.specs.declared.cause.FieldCause.TheVariants.{Broken, TooDeep, WrongTotal}
+use Rattle.text.specs.declared.refusal.Refusal.{Refusal}
 use Rattle.text.specs.declared.cause.Layer.{Layer}
 use Rattle.text.specs.declared.cause.Layer.TheVariants.{Field, Line, Book}
 
 -- no condition on the fields below number n holds, where the three of them do not
-pub none_below : (start : ℕ) (ks : List Form) (fs : List (List ℕ)) (at n : ℕ)
+none_below : (start : ℕ) (ks : List Form) (fs : List (List ℕ)) (at n : ℕ)
     → (8 < n → length fs ≡ length ks)
     → (9 < n → (place : ℕ) → Leftmost Unfit ks fs at place → ⊥)
     → (10 < n → (place : ℕ) → Leftmost Deep ks fs at place → ⊥)
@@ -27,41 +28,45 @@ none_below start ks fs at n count form deep (Field TooDeep) place h b = deep h p
 none_below start ks fs at n count form deep (Field WrongTotal) place h b = b
 none_below start ks fs at n count form deep (Book c) place h b = b
 
-pub count_first : (start : ℕ) (ks : List Form) (fs : List (List ℕ)) (at : ℕ) → (length fs ≡ length ks → ⊥)
-    → FirstBreak (FieldBreaks start ks fs at) (wrong_count start)
-count_first start ks fs at ne =
-    record {
-      breaks = (ne, refl);
-      first = none_below start ks fs at 8 (λ h. omega arith) (λ h. omega arith) (λ h. omega arith);
-    }
+-- what is fine is not bad
+not_bad : (c : FieldCause) (k : Form) (f : List ℕ) → Fine c k f → Bad c k f → ⊥
+not_bad Broken k f h b = b h
+not_bad TooDeep k f h b = h b
+not_bad WrongTotal k f h b = b
 
-pub broken_first : (start : ℕ) (ks : List Form) (fs : List (List ℕ)) (at place : ℕ) → length fs ≡ length ks → Leftmost Unfit ks fs at place
-    → FirstBreak (FieldBreaks start ks fs at) (broken place)
-broken_first start ks fs at place e l =
-    record { breaks = (e, l); first = none_below start ks fs at 9 (λ h. e) (λ h. omega arith) (λ h. omega arith) }
+none_found : (c : FieldCause) (ks : List Form) (fs : List (List ℕ)) → AllFine c ks fs → (at place : ℕ) → Leftmost (Bad c) ks fs at place → ⊥
+none_found c [] fs h at place l = l
+none_found c (k ∷ ks) [] h at place l = l
+none_found c (k ∷ ks) (f ∷ fs) h at place (inl b) = not_bad c k f h.0 b.0
+none_found c (k ∷ ks) (f ∷ fs) h at place (inr l) = none_found c ks fs h.1 _ place l.1
 
-pub deep_first : (start : ℕ) (ks : List Form) (fs : List (List ℕ)) (at place : ℕ) → length fs ≡ length ks
-    → ((p : ℕ) → Leftmost Unfit ks fs at p → ⊥) → Leftmost Deep ks fs at place → FirstBreak (FieldBreaks start ks fs at) (too_deep place)
-deep_first start ks fs at place e fit l =
-    record { breaks = (e, l); first = none_below start ks fs at 10 (λ h. e) (λ h. fit) (λ h. omega arith) }
+-- the first field is bad, or it is fine and leaves the others
+pub found_first : (c : FieldCause) (ks ls : List Form) (k : Form) (fs gs : List (List ℕ)) (f : List ℕ) (at place : ℕ) → ks ≡ k ∷ ls → fs ≡ f ∷ gs
+    → Bad c k f → place ≡ at → Leftmost (Bad c) ks fs at place
+found_first c ks ls k fs gs f at place e d b p = rw (e, d) (inl (b, p))
 
--- none of one field, and none of two, is bad
-pub none_of_one : (Bad : Form → List ℕ → Type 0) (k : Form) (f : List ℕ) (at : ℕ) → (Bad k f → ⊥)
-    → (place : ℕ) → Leftmost Bad (k ∷ []) (f ∷ []) at place → ⊥
-none_of_one Bad k f at good place = ⊎_elim (λ b. good b.0) (λ b. b.1)
+pub found_more : (c : FieldCause) (ks ls : List Form) (k : Form) (fs gs : List (List ℕ)) (f : List ℕ) (at n : ℕ) → ks ≡ k ∷ ls → fs ≡ f ∷ gs
+    → Fine c k f → n ≡ at + length f → (place : ℕ) → Leftmost (Bad c) ls gs (n + 1) place → Leftmost (Bad c) ks fs at place
+found_more c ks ls k fs gs f at n e d h q place l =
+    let P : ℕ → Type 0 = λ m. Leftmost (Bad c) ls gs (m + 1) place in rw (e, d) (inr (not_bad c k f h, subst P q l))
 
-pub none_of_two : (Bad : Form → List ℕ → Type 0) (k l : Form) (f g : List ℕ) (at : ℕ) → (Bad k f → ⊥) → (Bad l g → ⊥)
-    → (place : ℕ) → Leftmost Bad (k ∷ l ∷ []) (f ∷ g ∷ []) at place → ⊥
-none_of_two Bad k l f g at good fine place = ⊎_elim (λ b. good b.0) (λ b. none_of_one Bad l g _ fine place b.1)
+pub fine_more : (c : FieldCause) (ks ls : List Form) (k : Form) (fs gs : List (List ℕ)) (f : List ℕ) → ks ≡ k ∷ ls → fs ≡ f ∷ gs
+    → Fine c k f → AllFine c ls gs → AllFine c ks fs
+fine_more c ks ls k fs gs f e d h a = rw (e, d) (h, a)
 
--- of two fields that have their forms, the second is too deep and the first is not
-pub second_deep : (start : ℕ) (k l : Form) (fs gs hs : List (List ℕ)) (f g : List ℕ) (at place : ℕ)
-    → fs ≡ f ∷ gs → gs ≡ g ∷ hs → hs ≡ [] → Fits k f → Fits l g → (Deep k f → ⊥) → Deep l g → place ≡ at + length f + 1
-    → FirstBreak (FieldBreaks start (k ∷ l ∷ []) fs at) (too_deep place)
-second_deep start k l fs gs hs f g at place e d n fit next shallow deep p =
-    let whole : fs ≡ f ∷ g ∷ [] = e ∙ ap (λ r. f ∷ r) (d ∙ ap (λ r. g ∷ r) n) in
-    let P : List (List ℕ) → Type 0 = λ ts. FirstBreak (FieldBreaks start (k ∷ l ∷ []) ts at) (too_deep place) in
-    subst P (sym whole)
-    (deep_first start (k ∷ l ∷ []) (f ∷ g ∷ []) at place refl
-    (none_of_two Unfit k l f g at (λ u. u fit) (λ u. u next))
-    (inr (shallow, inl (deep, p))))
+-- where there is no field or no form, none is bad
+pub fine_without : (c : FieldCause) (ks : List Form) (fs : List (List ℕ)) → (fs ≡ []) ⊎ (ks ≡ []) → AllFine c ks fs
+fine_without c [] fs h = tt
+fine_without c (k ∷ ks) [] h = tt
+fine_without c (k ∷ ks) (f ∷ fs) (inl e) = absurd (let z : ◌≡◌ {A = ℕ} 0 1 = cc in omega arith)
+fine_without c (k ∷ ks) (f ∷ fs) (inr e) = absurd (let z : ◌≡◌ {A = ℕ} 0 1 = cc in omega arith)
+
+-- of fields that have their forms, the leftmost that is too deep is refused, if any is
+pub depth_told : (start : ℕ) (ks : List Form) (fs : List (List ℕ)) (at : ℕ) (r : Result (Unit {0}) Refusal) → length fs ≡ length ks → AllFine Broken ks fs
+    → MatchResult r (λ _. AllFine TooDeep ks fs) (λ e. (e.layer ≡ Field TooDeep) × Leftmost (Bad TooDeep) ks fs at e.place)
+    → MatchResult r (λ _. Checked ks fs) (FirstBreak (FieldBreaks start ks fs at))
+depth_told start ks fs at (Ok x) count fit h = record { count = count; fit = fit; shallow = h }
+depth_told start ks fs at (Err e) count fit h =
+    let P : Layer → Type 0 = λ l. FirstBreak (FieldBreaks start ks fs at) (record { layer = l; place = e.place }) in
+    subst P (sym h.0)
+    (record { breaks = (count, h.1); first = none_below start ks fs at 10 (λ _. count) (λ _. none_found Broken ks fs fit at) (λ lt. omega arith) })

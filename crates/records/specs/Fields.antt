@@ -5,10 +5,9 @@
 -- | field  | the bytes before the first tab                                           |
 -- | fields | all the fields of a line: one more than it has tabs                      |
 -- | after  | the fields behind the tab that the bytes begin with; none at the end     |
--- | Taken  | a field of the code is the first of some fields, and begins at a place   |
 -- | One    | some fields are one field of a form, at its place                        |
 -- | Two    | some fields are two fields of two forms, each at its place               |
-use Rattle.std.specs.Prelude.{◌≡◌, ℕ, ◌+◌, ◌≤◌, cond, List, [], ◌∷◌, length, drop, ◌==◌}
+use Rattle.std.specs.Prelude.{◌≡◌, ℕ, ◌+◌, cond, List, [], ◌∷◌, length, ◌==◌}
 use Rattle.records.specs.Forms.{Fits, Deep}
 use Rattle.text.specs.Scanning.{front, tab}
 use Rattle.text.specs.declared.cause.Layer.TheVariants as layer
@@ -33,22 +32,17 @@ abbrev pub after : List ℕ → List (List ℕ)
 after [] = []
 after (b ∷ bs) = fields bs
 
--- the line xs begins at `start` of its text; the field begins at `at` of the line, and is the first of fs
-pub record Taken (start : ℕ) (xs : List ℕ) (at : ℕ) (fs : List (List ℕ)) (f : Field) : Type 0 where
-  pub placed : f.place ≡ start + at
-  pub within : at + length f.bytes.now ≤ length xs
-  pub goes : fs ≡ f.bytes.now ∷ after (drop (at + length f.bytes.now) xs)
-
-pub record One (start at : ℕ) (form : Form) (fs : List (List ℕ)) (f : Field) : Type 0 where
+-- the fields stand behind a tab that is at the place `at` of the text
+pub record One (at : ℕ) (form : Form) (fs : List (List ℕ)) (f : Field) : Type 0 where
   pub all : fs ≡ f.bytes.now ∷ []
-  pub placed : f.place ≡ start + at + 1
+  pub placed : f.place ≡ at + 1
   pub fit : Fits form f.bytes.now
   pub shallow : Deep form f.bytes.now → ⊥
 
-pub record Two (start at : ℕ) (left right : Form) (fs : List (List ℕ)) (f g : Field) : Type 0 where
+pub record Two (at : ℕ) (left right : Form) (fs : List (List ℕ)) (f g : Field) : Type 0 where
   pub all : fs ≡ f.bytes.now ∷ g.bytes.now ∷ []
-  pub placed : f.place ≡ start + at + 1
-  pub next_placed : g.place ≡ start + at + 1 + length f.bytes.now + 1
+  pub placed : f.place ≡ at + 1
+  pub next_placed : g.place ≡ at + 1 + length f.bytes.now + 1
   pub fit : Fits left f.bytes.now
   pub next_fit : Fits right g.bytes.now
   pub shallow : Deep left f.bytes.now → ⊥

@@ -74,12 +74,6 @@ Breaks start xs (Field TooDeep) place = BreaksBehind start xs (Field TooDeep) pl
 Breaks start xs (Field WrongTotal) place = ⊥
 Breaks start xs (Book c) place = ⊥
 
-abbrev pub broken : ℕ → Refusal
-broken place = record { layer = Field Broken; place = place }
-
-abbrev pub too_deep : ℕ → Refusal
-too_deep place = record { layer = Field TooDeep; place = place }
-
 pub record FirstBreak (Cond : Layer → ℕ → Type 0) (e : Refusal) : Type 0 where
   pub breaks : Cond e.layer e.place
   pub first : (c : Layer) (place : ℕ) → number_of c < number_of e.layer → Cond c place → ⊥

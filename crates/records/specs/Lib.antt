@@ -6,4 +6,5 @@ pub mod Judging
 pub mod Verdicts
 pub mod Records
 pub mod Lines
+pub mod Taking
 pub mod Faults

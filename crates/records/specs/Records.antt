@@ -2,6 +2,7 @@
 --
 -- | word    | meaning                                                                       |
 -- |---------|-------------------------------------------------------------------------------|
+-- | kind_of | the kind of a record's line                                                   |
 -- | parts   | the fields of a record's line, the kind word first                            |
 -- | Placed  | each field's place is where its bytes stand in the text                       |
 -- | Meant   | each field means what its form says: builds, names, numbers with their values |
@@ -22,6 +23,16 @@ use Rattle.records.specs.declared.field.Field.{Field}
 use Rattle.records.specs.declared.field.Number.{Number}
 use Rattle.records.specs.declared.record.Record.{Record}
 use Rattle.records.specs.declared.record.Record.TheVariants.{Log, Flex, End, Sheet, Cost, Stock, Pair, Best}
+
+abbrev pub kind_of : Record → Kind
+kind_of (Log field) = kind.Log
+kind_of (Flex left right) = kind.Flex
+kind_of (End count) = kind.End
+kind_of (Sheet named rule) = kind.Sheet
+kind_of (Cost name price) = kind.Cost
+kind_of (Stock name) = kind.Stock
+kind_of (Pair left right) = kind.Pair
+kind_of (Best build) = kind.Best
 
 abbrev pub parts : Record → List (List ℕ)
 parts (Log field) = word kind.Log ∷ field.bytes.now ∷ []

@@ -1,11 +1,12 @@
 // Fields of a line, borrowed from the text, each with its place in it.
-ghost use Rattle.std.specs.Prelude.{◌≡◌, ◌+◌, ◌<◌, ◌≤◌, [], ◌∷◌, length, drop, MatchResult, ◌≢◌};
-ghost use Rattle.records.specs.Fields.{fields, after, Taken, One, Two, wrong_count};
-ghost use Rattle.records.specs.Forms.{Fits, Deep};
-ghost use Rattle.records.specs.Judging.{FirstBreak, FieldBreaks, broken, too_deep};
+ghost use Rattle.std.specs.Prelude.{◌≡◌, ℕ, ◌+◌, ◌^◌, ◌<◌, [], ◌∷◌, length, MatchOption, MatchResult};
+ghost use Rattle.records.specs.Fields.{after, One, Two, wrong_count};
+ghost use Rattle.records.specs.Forms.{Bad, AllFine, Checked};
+ghost use Rattle.records.specs.Judging.{FirstBreak, FieldBreaks, Leftmost};
+ghost use Rattle.text.specs.declared.cause.Layer.TheVariants as layer;
 
-use crate::form::{Form, fits, nested};
-use text::cause::{FieldCause, Layer, LineCause};
+use crate::form::Form;
+use text::cause::{FieldCause, LineCause};
 use text::refusal::Refusal;
 use text::scan::stretch_at;
 
@@ -24,110 +25,93 @@ pub struct Number<'a> {
     pub value: u32,
 }
 
-/// The field that begins at `at` of a line that begins at `start` of its text.
-pub(crate) fn field_at<'a>(line: &'a [u8], start: usize, at: usize) -> Field<'a>
-    requires within { at ≤ length line.now }
-    requires fits { start + length line.now < 18446744073709551616 }
-    ensures { Taken start line.now at (fields (drop at line.now)) result }
-{
-    Field {
-        bytes: stretch_at(line, at, |b| b == b'\t'),
-        place: start + at,
+/// The fields of a line that are still to come, each behind a tab: where the line begins in its text, what is left of it, and where that begins.
+#[derive(Clone, Copy)]
+pub(crate) struct Rest<'a> {
+    pub(crate) start: usize,
+    pub(crate) at: usize,
+    pub(crate) bytes: &'a [u8],
+    ghost fits: { at + length bytes.now < 2 ^ 64 },
+}
+
+impl<'a> Rest<'a> {
+    /// The next field, if any is left.
+    fn next(&mut self) -> Option<Field<'a>>
+        ensures field { MatchOption result (after self.old.bytes.now ≡ []) (λ f. after self.old.bytes.now ≡ f.bytes.now ∷ after self.new.bytes.now) }
+        ensures place { MatchOption result (self.new ≡ self.old) (λ f. (f.place ≡ self.old.at + 1) × (self.new.at ≡ f.place + length f.bytes.now)) }
+    {
+        let (_, behind) = self.bytes.split_first()?;
+        let field = Field {
+            bytes: stretch_at(behind, 0, |b| b == b'\t'),
+            place: self.at + 1,
+        };
+        self.bytes = &behind[field.bytes.len()..];
+        self.at = field.place + field.bytes.len();
+        Some(field)
     }
-}
 
-/// The field behind the tab at `at`; refused where the line ends there.
-fn next_field<'a>(line: &'a [u8], start: usize, at: usize) -> Result<Field<'a>, Refusal>
-    requires within { at ≤ length line.now }
-    requires fits { start + length line.now < 18446744073709551616 }
-    ensures { MatchResult result (λ f. Taken start line.now (at + 1) (after (drop at line.now)) f) (λ e. (e ≡ wrong_count start) × (after (drop at line.now) ≡ [])) }
-{
-    if at == line.len() {
-        return Err(Refusal {
-            layer: Layer::Line(LineCause::WrongCount),
-            place: start,
-        });
+    /// Refuses the fields unless they are as many as the forms.
+    fn check_count(self, forms: &[Form]) -> Result<(), Refusal>
+        ensures { MatchResult result (λ _. length (after self.entry.bytes.now) ≡ length forms.now) (λ e. (e ≡ wrong_count self.entry.start) × (length (after self.entry.bytes.now) ≡ length forms.now → ⊥)) }
+    {
+        let wrong_count = Refusal {
+            layer: LineCause::WrongCount.into(),
+            place: self.start,
+        };
+        let mut fields = self;
+        for _ in forms {
+            fields.next().ok_or(wrong_count)?;
+        }
+        match fields.next() {
+            Some(_) => Err(wrong_count),
+            None => Ok(()),
+        }
     }
-    Ok(field_at(line, start, at + 1))
-}
 
-/// No field is left at `at`.
-fn no_more(line: &[u8], start: usize, at: usize) -> Result<(), Refusal>
-    requires { at ≤ length line.now }
-    ensures { MatchResult result (λ _. after (drop at line.now) ≡ []) (λ e. (e ≡ wrong_count start) × (after (drop at line.now) ≢ [])) }
-{
-    if at < line.len() {
-        return Err(Refusal {
-            layer: Layer::Line(LineCause::WrongCount),
-            place: start,
-        });
+    /// Refuses the leftmost field that its form refuses for a cause.
+    fn check_each(self, forms: &[Form], cause: FieldCause) -> Result<(), Refusal>
+        ensures { MatchResult result (λ _. AllFine cause forms.now (after self.entry.bytes.now)) (λ e. (e.layer ≡ layer.Field cause) × Leftmost (Bad cause) forms.now (after self.entry.bytes.now) (self.entry.at + 1) e.place) }
+    {
+        let mut fields = self;
+        for form in forms {
+            let Some(field) = fields.next() else {
+                return Ok(());
+            };
+            if form.refuses(field.bytes, cause) {
+                return Err(Refusal {
+                    layer: cause.into(),
+                    place: field.place,
+                });
+            }
+        }
+        Ok(())
     }
-    Ok(())
-}
 
-/// The field has its form.
-fn check_form(form: Form, bytes: &[u8], place: usize) -> Result<(), Refusal>
-    ensures { MatchResult result (λ _. Fits form bytes.now) (λ e. (e ≡ broken place) × (Fits form bytes.now → ⊥)) }
-{
-    if fits(form, bytes) {
-        return Ok(());
+    /// Refuses the fields unless there is one for each form, each has its form, and none is nested too deep.
+    fn check(self, forms: &[Form]) -> Result<(), Refusal>
+        ensures { MatchResult result (λ _. Checked forms.now (after self.entry.bytes.now)) (FirstBreak (FieldBreaks self.entry.start forms.now (after self.entry.bytes.now) (self.entry.at + 1))) }
+    {
+        self.check_count(forms)?;
+        self.check_each(forms, FieldCause::Broken)?;
+        self.check_each(forms, FieldCause::TooDeep)
     }
-    Err(Refusal {
-        layer: Layer::Field(FieldCause::Broken),
-        place,
-    })
-}
 
-/// The field is no build that is nested too deep.
-fn check_depth(form: Form, bytes: &[u8], place: usize) -> Result<(), Refusal>
-    ensures { MatchResult result (λ _. Deep form bytes.now → ⊥) (λ e. (e ≡ too_deep place) × Deep form bytes.now) }
-{
-    if nested(form, bytes) {
-        return Err(Refusal {
-            layer: Layer::Field(FieldCause::TooDeep),
-            place,
-        });
+    /// The one field that is left, of a form.
+    pub(crate) fn one(mut self, form: Form) -> Result<Field<'a>, Refusal>
+        ensures { MatchResult result (One self.entry.at form (after self.entry.bytes.now)) (FirstBreak (FieldBreaks self.entry.start (form ∷ []) (after self.entry.bytes.now) (self.entry.at + 1))) }
+    {
+        self.check(&[form])?;
+        Ok(self.next().unwrap())
     }
-    Ok(())
-}
 
-/// The one field behind the tab at `at`, of a form.
-pub(crate) fn one_field<'a>(
-    line: &'a [u8],
-    start: usize,
-    at: usize,
-    form: Form,
-) -> Result<Field<'a>, Refusal>
-    requires within { at ≤ length line.now }
-    requires fits { start + length line.now < 18446744073709551616 }
-    ensures { MatchResult result (One start at form (after (drop at line.now))) (FirstBreak (FieldBreaks start (form ∷ []) (after (drop at line.now)) (start + at + 1))) }
-{
-    let only = next_field(line, start, at)?;
-    no_more(line, start, at + 1 + only.bytes.len())?;
-    check_form(form, only.bytes, only.place)?;
-    check_depth(form, only.bytes, only.place)?;
-    Ok(only)
-}
-
-/// The two fields behind the tab at `at`, each of its form.
-pub(crate) fn two_fields<'a>(
-    line: &'a [u8],
-    start: usize,
-    at: usize,
-    left: Form,
-    right: Form,
-) -> Result<(Field<'a>, Field<'a>), Refusal>
-    requires within { at ≤ length line.now }
-    requires fits { start + length line.now < 18446744073709551616 }
-    ensures { MatchResult result (λ p. Two start at left right (after (drop at line.now)) p.0 p.1) (FirstBreak (FieldBreaks start (left ∷ right ∷ []) (after (drop at line.now)) (start + at + 1))) }
-{
-    let first = next_field(line, start, at)?;
-    let behind = at + 1 + first.bytes.len();
-    let second = next_field(line, start, behind)?;
-    no_more(line, start, behind + 1 + second.bytes.len())?;
-    check_form(left, first.bytes, first.place)?;
-    check_form(right, second.bytes, second.place)?;
-    check_depth(left, first.bytes, first.place)?;
-    check_depth(right, second.bytes, second.place)?;
-    Ok((first, second))
+    /// The two fields that are left, each of its form.
+    // `one` and `two` are two functions, since a result that holds an array of fields gets no proof.
+    pub(crate) fn two(mut self, left: Form, right: Form) -> Result<(Field<'a>, Field<'a>), Refusal>
+        ensures { MatchResult result (λ p. Two self.entry.at left right (after self.entry.bytes.now) p.0 p.1) (FirstBreak (FieldBreaks self.entry.start (left ∷ right ∷ []) (after self.entry.bytes.now) (self.entry.at + 1))) }
+    {
+        self.check(&[left, right])?;
+        let first = self.next().unwrap();
+        let second = self.next().unwrap();
+        Ok((first, second))
+    }
 }

@@ -5,7 +5,9 @@ ghost use Rattle.records.specs.Judging.{Breaks, Unbroken};
 ghost use Rattle.records.specs.Lines.{longest_text, lines, taken, LinesRejoin};
 ghost use Rattle.records.specs.Records.{Reads};
 
-use crate::record::{Record, read_record};
+mod iter;
+
+use crate::record::{Line, Record};
 use text::cause::{Layer, LineCause};
 use text::fault::Fault;
 use text::refusal::Source;
@@ -112,10 +114,12 @@ impl<'a> TextLine<'a> {
         ensures granted { OnOk result (Unbroken (Breaks self.now.place self.now.bytes.now)) }
         ensures refused { IfErr result (Told self.now.source self.now.number (Breaks self.now.place self.now.bytes.now)) }
     {
-        match read_record(self.bytes, self.place as usize) {
-            Ok(record) => Ok(record),
-            Err(refusal) => Err(Fault::new(self.source, self.number, refusal.place, refusal.layer)),
-        }
+        let TextLine { source, number, .. } = *self;
+        let line = Line {
+            bytes: self.bytes,
+            start: self.place as usize,
+        };
+        line.read().map_err(|refusal| Fault::new(source, number, refusal.place, refusal.layer))
     }
 }
 

@@ -4,7 +4,7 @@ ghost use Rattle.records.specs.Faults.{Coded};
 ghost use Rattle.records.specs.Judging.{Breaks, FirstBreak, Unbroken};
 ghost use Rattle.records.specs.Verdicts.{OneVerdict};
 
-use crate::record::read_record;
+use crate::record::Line;
 use text::refusal::Refusal;
 
 /// Whether a line is granted, and else the first refusal whose condition holds; places are from the line's first byte.
@@ -12,10 +12,12 @@ pub fn check_line(line: &[u8]) -> Result<(), Refusal>
     ensures granted { OnOk result (Unbroken (Breaks 0 line.now)) }
     ensures refused { IfErr result (FirstBreak (Breaks 0 line.now)) }
 {
-    match read_record(line, 0) {
-        Ok(_) => Ok(()),
-        Err(refusal) => Err(refusal),
-    }
+    let line = Line {
+        bytes: line,
+        start: 0,
+    };
+    line.read()?;
+    Ok(())
 }
 
 /// For C: 65,536 times the refusal's number, plus its place from the line's first byte; 0 where the line is granted.

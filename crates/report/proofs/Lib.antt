@@ -1,4 +1,3 @@
 -- The lemmas of this crate, by subject.
 mod Rows
-mod Numbers
 pub mod Quotes

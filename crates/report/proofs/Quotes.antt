@@ -1,32 +1,21 @@
 -- Cited bytes, copied one by one as they are printed.
-use Rattle.std.proofs.Common.{◌≡◌, ℕ, ◌+◌, ◌<◌, ◌≤◌, min, true, false, ltb, List, [], ◌∷◌, ◌++◌, map, length, get_or, take, set, codes, decimal, Result, sym, refl, ap, ◌∙◌, subst, arith, ltb-false, ltb-true}
-use Rattle.std.proofs.lemmas.List.{take_more_set, map_more, take_all}
+use Rattle.std.proofs.Common.{drop, ◌≡◌, ℕ, ◌≤◌, min, List, ◌∷◌, ◌++◌, map, length, take, codes, decimal, Result, ap, ◌∙◌, subst, arith}
+use Rattle.std.proofs.lemmas.List.{append-nil, drop_all, length-take, take-map, take_min, take_all, take_at}
 use Rattle.text.specs.Citing.{source_word}
 use Rattle.text.specs.declared.cause.BookCause.{BookCause}
 use Rattle.text.specs.declared.fault.Fault.{Fault}
 use Rattle.report.specs.Rows.{Prints}
 use Rattle.report.specs.Printed.{visible, quoted, if_any, fault_fields}
 
--- one byte more
-pub quote_more : (out bs : List ℕ) (i b : ℕ) → i < length out → i < length bs → take i out ≡ map visible (take i bs)
-    → b ≡ visible (get_or bs i 0) → take (i + 1) (set out i b) ≡ map visible (take (i + 1) bs)
-quote_more out bs i b h k e v = take_more_set out i b h ∙ (ap (λ l. l ++ (b ∷ [])) e) ∙ (ap (λ c. map visible (take i bs) ++ (c ∷ [])) v) ∙ sym (map_more visible bs i 0 k)
-
--- all the bytes that are printed
-quote_all : (bs : List ℕ) (n : ℕ) → n ≡ min (length bs) 256 → map visible (take n bs) ≡ quoted bs
-quote_all bs n e =
-    elim (ltb 256 (length bs)) as (λ t. ltb 256 (length bs) ≡ t → map visible (take n bs) ≡ quoted bs) [
-      | true ↦ λ q.
-          let h : 256 < length bs = ltb-true 256 (length bs) q in
-          let m : n ≡ 256 = omega arith in
-          ap (λ k. map visible (take k bs)) m
-      | false ↦ λ q.
-          let h : length bs ≤ 256 = ltb-false 256 (length bs) q in
-          ap (map visible) (take_all n bs (omega arith) ∙ sym (take_all 256 bs h))
-    ] refl
-
-pub quote_done : (out bs : List ℕ) (i n : ℕ) → i ≡ n → n ≡ min (length bs) 256 → take i out ≡ map visible (take i bs) → take n out ≡ quoted bs
-quote_done out bs i n e m q = (ap (λ k. take k out) (sym e)) ∙ q ∙ (ap (λ k. map visible (take k bs)) e) ∙ quote_all bs n m
+-- all the bytes that were copied are as they are printed
+pub quote_done : (old bs ys out : List ℕ) (n i : ℕ) → n ≡ min (length old) (length bs) → ys ≡ take n bs → length (ys ++ drop n old) ≤ i
+    → out ≡ map visible (take i (ys ++ drop n old)) ++ drop i (ys ++ drop n old) → take n out ≡ map visible (take (length old) bs)
+quote_done old bs ys out n i e copied h made =
+    let whole : out ≡ map visible (ys ++ drop n old) =
+    made ∙ ap (λ t. map visible (take i (ys ++ drop n old)) ++ t) (drop_all i (ys ++ drop n old) h)
+    ∙ append-nil _ ∙ ap (map visible) (take_all i (ys ++ drop n old) h) in
+    let long : length ys ≡ n = omega (arith, ap length copied, length-take n bs) in
+    ap (take n) whole ∙ take-map visible n (ys ++ drop n old) ∙ ap (map visible) (take_at ys (drop n old) n long ∙ copied ∙ ap (λ k. take k bs) e ∙ take_min (length old) bs)
 
 -- the row of a fault, from the row of its fields
 pub fault_made : (out last : List ℕ) (r : Result ℕ BookCause) (f : Fault) (cited w l n p q : List ℕ) → w ≡ source_word f.source → l ≡ decimal f.line

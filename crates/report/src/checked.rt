@@ -1,7 +1,9 @@
 // The rows that the line checker prints: a line as read, a fault with the bytes that it cites, and the totals.
-ghost use Rattle.std.specs.Prelude.{◌≡◌, ◌≤◌, min, [], ◌∷◌, ◌++◌, map, length, take, codes};
+ghost use Rattle.std.specs.Prelude.{◌≡◌, ◌≤◌, ◌∷◌, length, map, take, codes};
+ghost use Rattle.records.specs.Records.{kind_of, parts};
+ghost use Rattle.text.specs.Kinds.{word};
 ghost use Rattle.report.specs.Rows.{Prints};
-ghost use Rattle.report.specs.Printed.{visible, quoted, if_any, fault_fields, line_fields, total_fields};
+ghost use Rattle.report.specs.Printed.{visible, if_any, fault_fields, line_fields, total_fields};
 
 use crate::decimal::Digits;
 use crate::row::print_row;
@@ -9,7 +11,6 @@ use records::lines::TextLine;
 use records::record::Record;
 use text::cause::BookCause;
 use text::fault::Fault;
-use text::kind::Kind;
 use text::word::Word;
 
 /// How many of the cited bytes are printed at most: as many as a line may have.
@@ -19,63 +20,18 @@ pub const QUOTED: usize = 256;
 fn visible_byte(b: u8) -> u8
     ensures { result ≡ visible b }
 {
-    if b >= 33 && b <= 126 { b } else { b'?' }
-}
-
-/// The row of four fields.
-fn four<'a>(
-    out: &mut [u8],
-    a: &'a [u8],
-    b: &'a [u8],
-    c: &'a [u8],
-    d: &'a [u8],
-) -> Result<usize, BookCause>
-    ensures { Prints out.old out.new (a.now ∷ b.now ∷ c.now ∷ d.now ∷ []) result }
-{
-    print_row(out, &[a, b, c, d])
-}
-
-/// The row of five fields.
-fn five<'a>(
-    out: &mut [u8],
-    a: &'a [u8],
-    b: &'a [u8],
-    c: &'a [u8],
-    d: &'a [u8],
-    e: &'a [u8],
-) -> Result<usize, BookCause>
-    ensures { Prints out.old out.new (a.now ∷ b.now ∷ c.now ∷ d.now ∷ e.now ∷ []) result }
-{
-    print_row(out, &[a, b, c, d, e])
-}
-
-/// The row of six fields.
-fn six<'a>(
-    out: &mut [u8],
-    a: &'a [u8],
-    b: &'a [u8],
-    c: &'a [u8],
-    d: &'a [u8],
-    e: &'a [u8],
-    f: &'a [u8],
-) -> Result<usize, BookCause>
-    ensures { Prints out.old out.new (a.now ∷ b.now ∷ c.now ∷ d.now ∷ e.now ∷ f.now ∷ []) result }
-{
-    print_row(out, &[a, b, c, d, e, f])
+    if b.is_ascii_graphic() { b } else { b'?' }
 }
 
 /// Prints how many lines and faults there were.
 pub fn print_totals(out: &mut [u8], lines: usize, faults: usize) -> Result<usize, BookCause>
     ensures { Prints out.old out.new (total_fields lines faults) result }
 {
-    let lines = Digits::of(lines);
-    let faults = Digits::of(faults);
-    four(
+    let lines = Digits::from(lines);
+    let faults = Digits::from(faults);
+    print_row(
         out,
-        b"LINES",
-        lines.as_bytes(),
-        b"FAULTS",
-        faults.as_bytes(),
+        &[b"LINES", lines.as_bytes(), b"FAULTS", faults.as_bytes()],
     )
 }
 
@@ -87,51 +43,51 @@ pub fn print_line(
 ) -> Result<usize, BookCause>
     ensures { Prints out.old out.new (line_fields line.now read.now) result }
 {
-    let number = Digits::of(line.number as usize);
-    let source = line.source.word();
-    let number = number.as_bytes();
+    let number = Digits::from(line.number as usize);
+    record_row(
+        out,
+        line.source.word(),
+        number.as_bytes(),
+        read.kind().word(),
+        *read,
+    )
+}
+
+/// The row of a record, behind the name of its text, the number of its line and the word of its kind.
+fn record_row<'a>(
+    out: &mut [u8],
+    source: &'a [u8],
+    number: &'a [u8],
+    kind: &'a [u8],
+    read: Record<'a>,
+) -> Result<usize, BookCause>
+    requires { kind.now ≡ word (kind_of read) }
+    ensures { Prints out.old out.new (source.now ∷ number.now ∷ parts read.entry) result }
+{
     match read {
-        Record::Log { version } => four(out, source, number, Kind::Log.word(), version.bytes),
-        Record::Flex { left, right } => five(
-            out,
-            source,
-            number,
-            Kind::Flex.word(),
-            left.bytes,
-            right.bytes,
-        ),
-        Record::End { count } => four(out, source, number, Kind::End.word(), count.bytes),
-        Record::Sheet { named, .. } => four(out, source, number, Kind::Sheet.word(), named.bytes),
-        Record::Cost { name, price } => five(
-            out,
-            source,
-            number,
-            Kind::Cost.word(),
-            name.bytes,
-            price.bytes,
-        ),
-        Record::Stock { name } => four(out, source, number, Kind::Stock.word(), name.bytes),
-        Record::Pair { left, right } => five(
-            out,
-            source,
-            number,
-            Kind::Pair.word(),
-            left.bytes,
-            right.bytes,
-        ),
-        Record::Best { build } => four(out, source, number, Kind::Best.word(), build.bytes),
+        Record::Log { version: field }
+        | Record::Sheet { named: field, .. }
+        | Record::Stock { name: field }
+        | Record::Best { build: field } => print_row(out, &[source, number, kind, field.bytes]),
+        Record::End { count } => print_row(out, &[source, number, kind, count.bytes]),
+        Record::Flex { left, right } | Record::Pair { left, right } => {
+            print_row(out, &[source, number, kind, left.bytes, right.bytes])
+        }
+        Record::Cost { name, price } => {
+            print_row(out, &[source, number, kind, name.bytes, price.bytes])
+        }
     }
 }
 
-/// Copies cited bytes into `out` as they are printed, and answers how many.
+/// Copies cited bytes to the front of `out`, as many as it takes, as they are printed, and answers how many.
 fn quote(out: &mut [u8], bytes: &[u8]) -> usize
-    requires { length out.old ≡ 256 }
-    ensures within { result ≤ 256 }
-    ensures after { take result out.new ≡ quoted bytes.now }
+    ensures within { result ≤ length out.old }
+    ensures after { take result out.new ≡ map visible (take (length out.old) bytes.now) }
 {
-    let count = bytes.len().min(QUOTED);
-    for i in 0..count {
-        out[i] = visible_byte(bytes[i]);
+    let count = out.len().min(bytes.len());
+    out[..count].copy_from_slice(&bytes[..count]);
+    for b in out.iter_mut() {
+        *b = visible_byte(*b);
     }
     count
 }
@@ -142,9 +98,9 @@ pub fn print_fault(out: &mut [u8], fault: &Fault, cited: &[u8]) -> Result<usize,
 {
     let mut buffer = [0; QUOTED];
     let count = quote(&mut buffer, cited);
-    let line = Digits::of(fault.line as usize);
-    let number = Digits::of(fault.number as usize);
-    let place = Digits::of(fault.place);
+    let line = Digits::from(fault.line as usize);
+    let number = Digits::from(fault.number as usize);
+    let place = Digits::from(fault.place);
     let source = fault.source.word();
     fault_row(
         out,
@@ -152,7 +108,7 @@ pub fn print_fault(out: &mut [u8], fault: &Fault, cited: &[u8]) -> Result<usize,
         line.as_bytes(),
         number.as_bytes(),
         place.as_bytes(),
-        &buffer[0..count],
+        &buffer[..count],
     )
 }
 
@@ -167,8 +123,7 @@ fn fault_row<'a>(
 ) -> Result<usize, BookCause>
     ensures { Prints out.old out.new (codes "FAULT" ∷ source.now ∷ line.now ∷ number.now ∷ place.now ∷ if_any cited.now) result }
 {
-    if cited.len() == 0 {
-        return five(out, b"FAULT", source, line, number, place);
-    }
-    six(out, b"FAULT", source, line, number, place, cited)
+    let fields = [b"FAULT", source, line, number, place, cited];
+    let count = if cited.is_empty() { 5 } else { 6 };
+    print_row(out, &fields[..count])
 }

@@ -3,7 +3,7 @@ ghost use Rattle.std.specs.Prelude.{◌≡◌, ◌≤◌, length};
 
 mod methods;
 
-/// The digits of one number, at the end of an array that any number fits.
+/// The digits of one number, at the end of an array that any number fits: nothing is allocated.
 #[derive(Drop)]
 pub struct Digits {
     bytes: [u8; 20],

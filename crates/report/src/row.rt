@@ -1,22 +1,16 @@
 // One printed row: fields parted by one space, ended by a line feed, or nothing at all.
-ghost use Rattle.std.specs.Prelude.{◌≡◌, ◌+◌, ◌<◌, ◌≤◌, ◌∷◌, ◌++◌, length, take, drop, MatchOption};
+ghost use Rattle.std.specs.Prelude.{◌≡◌, ◌+◌, ◌^◌, ◌<◌, ◌≤◌, ◌∷◌, ◌++◌, length, take, drop, MatchOption};
 ghost use Rattle.report.specs.Rows.{texts, row, Written, Prints};
 
 use text::cause::BookCause;
 
-/// The length of the row of `fields`, or none where that passes `room`.
-fn measure(fields: &[&[u8]], room: usize) -> Option<usize>
-    ensures { MatchOption result (room < length (row (texts fields.now))) (λ n. (n ≡ length (row (texts fields.now))) × (n ≤ room)) }
+/// The length of the row of `fields`, or none where it is more than any buffer has.
+fn measure(fields: &[&[u8]]) -> Option<usize>
+    ensures { MatchOption result (2 ^ 64 ≤ length (row (texts fields.now))) (λ n. n ≡ length (row (texts fields.now))) }
 {
-    if room == 0 {
-        return None;
-    }
     let mut len: usize = 0;
     for field in fields {
-        if room - len <= field.len() {
-            return None;
-        }
-        len += field.len() + 1;
+        len = len.checked_add(field.len())?.checked_add(1)?;
     }
     Some(len.max(1))
 }
@@ -32,6 +26,7 @@ fn put_field(out: &mut [u8], at: usize, field: &[u8])
 }
 
 /// Writes the row of `fields`, which is `len` bytes long, at the start of `out`.
+// `at` is counted: a cursor over the lent bytes would hold the same place, and would be no plainer.
 fn write_row(out: &mut [u8], fields: &[&[u8]], len: usize)
     requires measured { len ≡ length (row (texts fields.now)) }
     requires fits { len ≤ length out.old }
@@ -49,9 +44,11 @@ fn write_row(out: &mut [u8], fields: &[&[u8]], len: usize)
 pub fn print_row(out: &mut [u8], fields: &[&[u8]]) -> Result<usize, BookCause>
     ensures { Prints out.old out.new (texts fields.now) result }
 {
-    let Some(len) = measure(fields, out.len()) else {
-        return Err(BookCause::TooShort);
-    };
-    write_row(out, fields, len);
-    Ok(len)
+    match measure(fields) {
+        Some(len) if len <= out.len() => {
+            write_row(out, fields, len);
+            Ok(len)
+        }
+        _ => Err(BookCause::TooShort),
+    }
 }

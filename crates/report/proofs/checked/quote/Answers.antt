@@ -1,16 +1,17 @@
--- Each turn copies one byte; at the end all that are printed are copied.
-use Rattle.std.proofs.Common.{arith}
-use Rattle.report.proofs.Quotes.{quote_more, quote_done}
+-- Each turn makes one byte visible; at the end all that were copied are.
+use Rattle.std.proofs.Common.{◌∙◌, get_or, set, ap, arith}
+use Rattle.std.proofs.lemmas.List.{get_or_default}
+use Rattle.std.proofs.lemmas.List.Edits.{map_over_more}
+use Rattle.report.proofs.Quotes.{quote_done}
+use Rattle.report.specs.Printed.{visible}
 use Rattle.report.proofs.checked.quote.Goals as goal
 
-pub loop-i-preserved : goal.loop-i-preserved
-loop-i-preserved c =
-    quote_more c.loop-i.out c.args.bytes.now c.loop-i.i c.visible_byte.result (omega arith) (omega arith)
-    c.loop-i.invariant c.visible_byte.ensures
+pub loop-b-preserved : goal.loop-b-preserved
+loop-b-preserved c =
+    let i = c.loop-b.b-index in
+    ap (set c.loop-b.out i) c.visible_byte.ensures
+    ∙ map_over_more visible _ c.loop-b.out i (get_or c.loop-b.out i 0) (omega arith) c.loop-b.invariant (get_or_default c.loop-b.out i 0 _ (omega arith))
 
-pub returns : goal.returns
-returns c =
-    record {
-      within = omega arith;
-      after = quote_done c.loop-i.out c.args.bytes.now c.loop-i.i c.min-count.result (omega arith) (omega arith) c.loop-i.invariant;
-    }
+pub returns-clause-after : goal.returns-clause-after
+returns-clause-after c =
+    quote_done c.args.out.now c.args.bytes.now _ _ _ _ c.min-count.ensures c.copy_from_slice.ensures.after (omega arith) c.loop-b.invariant

@@ -1,7 +1,7 @@
--- The bytes so far are copied as they are printed.
-use Rattle.std.proofs.Common.{◌≡◌, map, take}
+-- The bytes so far are as they are printed, and the others as they were copied.
+use Rattle.std.proofs.Common.{◌≡◌, ◌++◌, map, take, drop}
 use Rattle.report.specs.Printed.{visible}
 use Rattle.report.proofs.checked.quote.Given as goal
 
-abbrev pub invariant-loop-i : goal.invariant-loop-i
-invariant-loop-i l = take l.i l.out ≡ map visible (take l.i l.bytes)
+abbrev pub invariant-loop-b : goal.invariant-loop-b
+invariant-loop-b l = l.out ≡ map visible (take l.b-index l.initial.out) ++ drop l.b-index l.initial.out

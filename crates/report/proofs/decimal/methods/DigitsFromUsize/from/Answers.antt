@@ -1,0 +1,7 @@
+-- No number that fits has more than 20 digits.
+use Rattle.std.proofs.Common.{rules}
+use Rattle.std.proofs.lemmas.Fmt.{length-decimal-le}
+use Rattle.report.proofs.decimal.methods.DigitsFromUsize.from.Goals as goal
+
+pub write_digits-start-requires : goal.write_digits-start-requires
+write_digits-start-requires c = search (rules, length-decimal-le 20)
