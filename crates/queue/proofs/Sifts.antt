@@ -62,6 +62,12 @@ module _ {X : Type 0} (lt : X → X → Bool) where
       never x true e = o.one_way x x e
       never x false e = e
 
+  pub rests : IsStrictWeakOrder lt → (xs : List X) (j c n : ℕ) → ((d : X) → lt (get_or xs j d) (get_or xs c d) ≡ false) → IsNotBelowChildren lt xs j c n → Down xs j n
+      → IsHeapWithin lt xs 0 n
+  rests o xs j c n t g h = λ p k d a b e f. ⊎_elim
+      (λ s. by _ _ _ _ (ap (λ m. get_or xs m d) s) refl (o.chain _ _ _ (t d) (g k d (omega arith) (omega arith) f)))
+      (λ u. h.0 p k d b e f u) (cases_eq p j)
+
   pub sinks : IsStrictWeakOrder lt → (xs ys : List X) (j c n : ℕ) → j * 2 + 1 ≤ c → c ≤ j * 2 + 2 → c < n → Places xs ys j c
       → ((d : X) → lt (get_or xs j d) (get_or xs c d) ≡ true) → IsNotBelowChildren lt xs j c n → Down xs j n → Down ys c n
   sinks o xs ys j c n from to in' s t g h = (

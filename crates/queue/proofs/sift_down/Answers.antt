@@ -2,8 +2,18 @@
 use Rattle.std.proofs.Common.{length, arith}
 use Rattle.std.proofs.lemmas.List.Sorted.{IsPermutation-trans}
 use Rattle.queue.specs.Queues.{after}
-use Rattle.queue.proofs.Sifts.{sinks, ranks, told}
+use Rattle.queue.proofs.Sifts.{rests, sinks, ranks, told}
 use Rattle.queue.proofs.sift_down.Goals as goal
+
+pub returns-then-not-goes_before-clause-order : goal.returns-then-not-goes_before-clause-order
+returns-then-not-goes_before-clause-order g c =
+    let l = c.loop-child in
+    let k = c.in-Some.child in
+    let f = c.in-Some.ensures in
+    let below = g.R.PriceRule.below in
+    let o = ranks below g.met.R.PriceRule.order in
+    let t = told below l.s k l.at c.index-s-child.result c.index-s-at.result f.within (omega arith) c.index-s-child.is c.index-s-at.is _ c.if-not-goes_before.ensures in
+    λ sinking. rests (after below) o l.s l.at k (length l.s) t f.foremost (l.invariant.order sinking)
 
 pub loop-child-preserved : goal.loop-child-preserved
 loop-child-preserved g c =
