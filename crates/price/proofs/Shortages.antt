@@ -1,35 +1,35 @@
--- How a stock list is read and changed, and how shortages grow.
-use Rattle.std.proofs.Common.{◌≡◌, ℕ, zero, suc, ◌<◌, true, false, cond, eqb, ◌⊎◌, List, [], ◌∷◌, length, get_or, set, sym, refl, ◌∙◌, subst, inl, inr, le_of_suc-le-suc, not-suc-le-zero, arith}
-use Rattle.std.proofs.lemmas.Bool.{cond-true, cond-false}
-use Rattle.std.proofs.lemmas.Bool.Decides.{nat_tests, eqb_tells}
-use Rattle.price.specs.Finding.{Nowhere, FirstAt}
-use Rattle.price.specs.Shortages.{stock_row, is_for, is_free, on_list, Enlisted}
-use Rattle.price.proofs.Finding.{tail}
-use Rattle.price.specs.declared.stock.StockRow.{StockRow}
+-- What a stock list becomes where a symbol was listed.
+use Rattle.std.proofs.Common.{◌≡◌, ℕ, true, get_or, set, Ok, Err, sym, refl, ◌∙◌, ap, arith}
+use Rattle.std.specs.Prelude.{Option, Some, None, is_some}
+use Rattle.std.specs.Option.{option_map}
+use Rattle.std.proofs.lemmas.Bool.Decides.{nat_tests}
+use Rattle.std.proofs.lemmas.List.{set-get_or}
+use Rattle.text.specs.declared.cause.BookCause.{BookCause}
+use Rattle.text.specs.declared.cause.BookCause.TheVariants.{ListFull}
+use Rattle.text.specs.declared.cause.Layer.TheVariants.{Book}
+use Rattle.price.specs.Lists.{listed, is_for, Putting, no_room, renewed, entered}
+use Rattle.price.specs.Shortages.{Symbols, Listing, known, full, added}
+use Rattle.price.proofs.Lists.{found_first, unlisted}
+use Rattle.price.specs.declared.list.Listed.{Listed}
 
-pub listed : (rs : List StockRow) (i x : ℕ) (d : StockRow) → i < length rs → is_for x (get_or rs i d) ≡ true → on_list rs x ≡ true
-listed [] i x d lt here = absurd (not-suc-le-zero lt)
-listed (r ∷ rs) zero x d lt here = cond-true _ _ _ here
-listed (r ∷ rs) (suc i) x d lt here = let again = listed rs i x d (le_of_suc-le-suc lt) here in grind (arith, nat_tests)
+has_value : (x : ℕ) (r : Option (Listed (Unit {0}))) → is_for x r ≡ true → is_some (option_map (λ l. l.value) r) ≡ true
+has_value x None e = absurd (cc)
+has_value x (Some r) e = refl
 
-pub unlisted : (rs : List StockRow) (x : ℕ) → Nowhere (is_for x) rs → on_list rs x ≡ false
-unlisted [] x none = refl
-unlisted (r ∷ rs) x none = cond-false _ _ _ (none 0 r (omega arith)) ∙ unlisted rs x (tail (is_for x) r rs (length rs) none)
+-- a row for x is the one that lists x, since it has no more to say
+is_itself : (x : ℕ) (r : Option (Listed (Unit {0}))) → is_for x r ≡ true → listed x tt ≡ r
+is_itself x None e = absurd (cc)
+is_itself x (Some r) e = let n : r.symbol ≡ x = grind (arith, nat_tests) in ap (λ k. listed k tt) (sym n)
 
-given : (rs : List StockRow) (i x : ℕ) (d : StockRow) → i < length rs → is_free (get_or rs i d) ≡ true → Enlisted rs x (set rs i (stock_row x))
-given [] i x d lt free y = absurd (not-suc-le-zero lt)
-given (r ∷ rs) zero x d lt free y = grind (arith, nat_tests)
-given (r ∷ rs) (suc i) x d lt free y = let again = given rs i x d (le_of_suc-le-suc lt) free y in grind (arith, nat_tests)
+pub listed_symbol : (rows : Symbols) (x : ℕ) (after : Symbols) → Putting rows x tt (Ok tt) after → Listing rows x (Ok tt) after
+listed_symbol rows x after (no_room none f a e) = absurd (cc)
+listed_symbol rows x after (renewed i f a e) =
+    let r = get_or rows i (listed x tt) in
+    let here = f.here (listed x tt) in
+    known (ap is_some (found_first rows i x (listed x tt) f) ∙ has_value x r here) refl (e ∙ ap (set rows i) (is_itself x r here) ∙ set-get_or rows i (listed x tt))
+listed_symbol rows x after (entered i none f a e) = added i (ap is_some (unlisted rows x none)) f refl e
 
--- an unlisted symbol gets a free row
-pub added_symbol : (rs : List StockRow) (i x : ℕ) (after : List StockRow) → FirstAt is_free rs i → after ≡ set rs i (stock_row x)
-    → Enlisted rs x after
-added_symbol rs i x after f e = let d = stock_row x in subst (Enlisted rs x) (sym e) (given rs i x d f.within (f.here d))
-
--- a listed symbol needs none
-pub known_symbol : (rs : List StockRow) (x : ℕ) → on_list rs x ≡ true → Enlisted rs x rs
-known_symbol rs x h y = go (eqb_tells y x)
-  where
-    go : ((eqb y x ≡ true) × (y ≡ x)) ⊎ ((eqb y x ≡ false) × (y ≡ x → ⊥)) → on_list rs y ≡ cond (eqb y x) true (on_list rs y)
-    go (inl e) = subst (λ z. on_list rs z ≡ true) (sym e.1) h ∙ sym (cond-true _ _ _ e.0)
-    go (inr e) = sym (cond-false _ _ _ e.0)
+pub refused_symbol : (rows : Symbols) (x : ℕ) (cause : BookCause) (after : Symbols) → Putting rows x tt (Err cause) after → Listing rows x (Err (Book cause)) after
+refused_symbol rows x cause after (no_room none f a e) = let is : cause ≡ ListFull = cc in full (ap is_some (unlisted rows x none)) f (ap (λ k. Err (Book k)) is) e
+refused_symbol rows x cause after (renewed i f a e) = absurd (cc)
+refused_symbol rows x cause after (entered i none f a e) = absurd (cc)

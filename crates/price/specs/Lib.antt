@@ -2,6 +2,7 @@
 pub mod Laws
 pub mod Stops
 pub mod Finding
+pub mod Lists
 pub mod Prices
 pub mod Shortages
 pub mod Rules

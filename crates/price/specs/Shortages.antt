@@ -2,10 +2,7 @@
 --
 -- | word       | meaning                                                                                  |
 -- |------------|------------------------------------------------------------------------------------------|
--- | stock_row  | the row that lists a symbol                                                              |
--- | no_row     | a row that is not in use, as a new list has them                                         |
--- | is_for     | the row is in use and lists the symbol                                                   |
--- | is_free    | the row is not in use                                                                    |
+-- | Symbols    | rows of which each lists a symbol, or is free                                            |
 -- | on_list    | some row lists the symbol                                                                |
 -- | lacks      | 1 for a symbol that is not on the list, else 0                                           |
 -- | smaller    | the first pair is below the second: missing is compared first, then names                |
@@ -13,32 +10,23 @@
 -- | FitsPair   | neither number passes the stop                                                           |
 -- | Listing    | what listing a symbol answers, and which list it leaves                                  |
 -- | Enlisted   | that symbol is on the list, and every other symbol is where it was                       |
-use Rattle.std.specs.Prelude.{◌≡◌, ℕ, ◌≤◌, Bool, true, false, cond, List, [], ◌∷◌, Ok, Err, Result, ◌==◌, nat_lt, slice_set}
+use Rattle.std.specs.Prelude.{◌≡◌, ℕ, ◌≤◌, Bool, true, false, cond, List, Option, is_some, is_none, Ok, Err, Result, ◌==◌, nat_lt, slice_set}
 use Rattle.text.specs.declared.cause.Layer.{Layer}
 use Rattle.text.specs.declared.cause.Layer.TheVariants.{Book}
 use Rattle.text.specs.declared.cause.BookCause.TheVariants.{ListFull}
 use Rattle.price.specs.Finding.{FirstAt, Nowhere}
+use Rattle.price.specs.Lists.{listed, value_of}
 use Rattle.price.specs.Stops.{stop, stopped}
+use Rattle.price.specs.declared.list.Listed.{Listed}
 use Rattle.price.specs.declared.stock.Shortage.{Shortage}
-use Rattle.price.specs.declared.stock.StockRow.{StockRow}
 
-abbrev pub stock_row : ℕ → StockRow
-stock_row x = record { used = true; symbol = x }
+abbrev pub Symbols : Type 0
+Symbols = List (Option (Listed (Unit {0})))
 
-abbrev pub no_row : StockRow
-no_row = record { used = false; symbol = 0 }
+abbrev pub on_list : Symbols → ℕ → Bool
+on_list rows x = is_some (value_of rows x)
 
-abbrev pub is_for : ℕ → StockRow → Bool
-is_for x row = cond row.used (row.symbol == x) false
-
-abbrev pub is_free : StockRow → Bool
-is_free row = cond row.used false true
-
-abbrev pub on_list : List StockRow → ℕ → Bool
-on_list [] x = false
-on_list (row ∷ rows) x = cond (is_for x row) true (on_list rows x)
-
-abbrev pub lacks : List StockRow → ℕ → ℕ
+abbrev pub lacks : Symbols → ℕ → ℕ
 lacks rows x = cond (on_list rows x) 0 1
 
 abbrev pub smaller : Shortage → Shortage → Bool
@@ -51,10 +39,10 @@ abbrev pub FitsPair : Shortage → Type 0
 FitsPair a = (a.missing ≤ stop) × (a.names ≤ stop)
 
 -- listing a listed symbol changes nothing, nor does a refusal
-pub data Listing (rows : List StockRow) (x : ℕ) (answer : Result (Unit {0}) Layer) (after : List StockRow) : Type 0 where
+pub data Listing (rows : Symbols) (x : ℕ) (answer : Result (Unit {0}) Layer) (after : Symbols) : Type 0 where
   known : on_list rows x ≡ true → answer ≡ Ok tt → after ≡ rows → Listing rows x answer after
-  full : on_list rows x ≡ false → Nowhere is_free rows → answer ≡ Err (Book ListFull) → after ≡ rows → Listing rows x answer after
-  added : (i : ℕ) → on_list rows x ≡ false → FirstAt is_free rows i → answer ≡ Ok tt → after ≡ slice_set rows i (stock_row x) → Listing rows x answer after
+  full : on_list rows x ≡ false → Nowhere is_none rows → answer ≡ Err (Book ListFull) → after ≡ rows → Listing rows x answer after
+  added : (i : ℕ) → on_list rows x ≡ false → FirstAt is_none rows i → answer ≡ Ok tt → after ≡ slice_set rows i (listed x tt) → Listing rows x answer after
 
-abbrev pub Enlisted : List StockRow → ℕ → List StockRow → Type 0
+abbrev pub Enlisted : Symbols → ℕ → Symbols → Type 0
 Enlisted rows x after = (y : ℕ) → on_list after y ≡ cond (y == x) true (on_list rows y)

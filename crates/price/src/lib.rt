@@ -3,6 +3,7 @@
 
 pub mod bill;
 pub mod laws;
+mod list;
 pub mod rule;
 pub mod steps;
 pub mod stock;

@@ -3,7 +3,7 @@ ghost use Rattle.std.specs.Prelude.{◌≡◌, ℕ, Bool};
 ghost use Rattle.price.specs.Laws.{Order, Growth, Weight, Fitting};
 
 /// The greatest number in a cost of the rules supplied here.
-pub const STOP: u32 = 4_294_967_295;
+pub const STOP: u32 = u32::MAX;
 
 /// A rule with a kind of cost of its own. Its meaning is fixed by what the rule holds now; a question alters nothing.
 pub trait PriceRule: Sized {

@@ -36,33 +36,29 @@ fn pair(missing: u32, names: u32) -> Shortage {
     Shortage { missing, names }
 }
 
-fn both(s: Shortage) -> (u32, u32) {
-    (s.missing, s.names)
-}
-
 /// With a on the list.
-pub fn stock_costs() -> [(u32, u32); 4] {
+pub fn stock_costs() -> [Shortage; 4] {
     let mut stock = Stock::new();
     let _ = stock.list(A);
     [
-        both(stock.cost_alone(A)),
-        both(stock.cost_alone(F)),
-        both(stock.cost_one(F, pair(0, 1))),
-        both(stock.cost_two(F, pair(1, 2), pair(1, 2))),
+        stock.cost_alone(A),
+        stock.cost_alone(F),
+        stock.cost_one(F, pair(0, 1)),
+        stock.cost_two(F, pair(1, 2), pair(1, 2)),
     ]
 }
 
 /// Of an unlisted symbol: the two counts stop together.
-pub fn pair_sums() -> [(u32, u32); 7] {
+pub fn pair_sums() -> [Shortage; 7] {
     let stock = Stock::new();
     [
-        both(stock.cost_one(F, pair(STOP, 7))),
-        both(stock.cost_one(F, pair(STOP - 2, 7))),
-        both(stock.cost_one(F, pair(STOP - 1, 7))),
-        both(stock.cost_one(F, pair(3, STOP))),
-        both(stock.cost_two(F, pair(STOP - 3, 1), pair(1, 1))),
-        both(stock.cost_two(F, pair(STOP - 2, 1), pair(1, 1))),
-        both(stock.cost_two(F, pair(STOP, STOP), pair(STOP, STOP))),
+        stock.cost_one(F, pair(STOP, 7)),
+        stock.cost_one(F, pair(STOP - 2, 7)),
+        stock.cost_one(F, pair(STOP - 1, 7)),
+        stock.cost_one(F, pair(3, STOP)),
+        stock.cost_two(F, pair(STOP - 3, 1), pair(1, 1)),
+        stock.cost_two(F, pair(STOP - 2, 1), pair(1, 1)),
+        stock.cost_two(F, pair(STOP, STOP), pair(STOP, STOP)),
     ]
 }
 

@@ -1,27 +1,16 @@
 -- What a queue holds after a push and a pop, and that it stays in order.
-use Rattle.std.proofs.Common.{◌≡◌, ℕ, zero, suc, ◌+◌, ◌-◌, ◌<◌, ◌≤◌, Bool, false, List, [], ◌∷◌, ◌++◌, length, get_or, take, drop, set, sym, refl, ap, ◌∙◌, subst, arith, length-drop, length-set, get_or-set_other}
+use Rattle.std.proofs.Common.{◌≡◌, ℕ, ◌+◌, ◌-◌, ◌<◌, Bool, false, List, [], ◌∷◌, ◌++◌, length, get_or, take, set, sym, ap, ◌∙◌, subst, arith, length-set, get_or-set_other}
 use Rattle.std.specs.Cmp.{IsStrictWeakOrder}
 use Rattle.std.specs.List.Sorted.{IsPermutation}
 use Rattle.std.specs.List.{swap_remove}
 use Rattle.std.proofs.Permutation.{taken_at}
 use Rattle.std.proofs.lemmas.List.{take_more_set, take_at, take-take, take-set-le, get_or-take, get_or_append_left, length-take-le, length-append, get_or_default}
+use Rattle.std.proofs.Math.Seq.{take-set-lt}
 use Rattle.std.proofs.ByRecursion.{all_from_every}
 use Rattle.std.proofs.lemmas.List.Sorted.{IsPermutation-sym, IsPermutation-trans, IsPermutation-cons, IsPermutation-to_front, length_permutation}
 use Rattle.queue.specs.declared.Entry.{Entry}
 use Rattle.queue.specs.Queues.{before, after, Heaped, OrderedIn, First, Rising, Sinking}
 use Rattle.queue.proofs.Sifts.{agrees, top, Places}
-
--- the part that was lent, and the rest, are as long as the slice was
-as_long : {X : Type 0} (zs ys : List X) (m : ℕ) → m ≤ length zs → IsPermutation (take m zs) ys → length (ys ++ drop m zs) ≡ length zs
-as_long zs ys m le s = let l = length_permutation _ _ s in let t = length-take-le m zs le in simp (length-append, length-drop) (omega arith)
-
-pub push_room : {X : Type 0} (es ys : List X) (n m : ℕ) (e : X) → m ≡ n + 1 → n < length es → IsPermutation (take m (set es n e)) ys
-    → length (ys ++ drop m (set es n e)) ≡ length es
-push_room es ys n m e is in' s = as_long (set es n e) ys m (omega (arith, length-set es n e)) s ∙ length-set es n e
-
-pub pop_room : {X : Type 0} (es zs ys : List X) (m : ℕ) → m ≤ length zs → length zs ≡ length es → IsPermutation (take m zs) ys
-    → length (ys ++ drop m zs) ≡ length es
-pop_room es zs ys m le same s = as_long zs ys m le s ∙ same
 
 module _ {C : Type 0} (below : C → C → Bool) where
   rest_order : (ys rest : List (Entry C)) (n : ℕ) → length ys ≡ n → Heaped below (length ys) ys → OrderedIn below n (ys ++ rest)
@@ -71,14 +60,6 @@ module _ {C : Type 0} where
       let p : take m (set es n e) ≡ take n es ++ e ∷ [] = ap (λ k. take k (set es n e)) is ∙ take_more_set es n e in' in
       subst (IsPermutation (e ∷ take n es)) (sym (take_at ys rest (n + 1) long)) (IsPermutation-trans _ _ _ (IsPermutation-sym _ _ (IsPermutation-to_front (take n es) e)) (subst (λ l. IsPermutation l ys) p s))
 
-take_set : {X : Type 0} (xs : List X) (k i : ℕ) (y : X) → take k (set xs i y) ≡ set (take k xs) i y
-take_set [] zero i y = refl
-take_set [] (suc k) i y = refl
-take_set (x ∷ xs) zero zero y = refl
-take_set (x ∷ xs) zero (suc i) y = refl
-take_set (x ∷ xs) (suc k) zero y = refl
-take_set {X} (x ∷ xs) (suc k) (suc i) y = ap (λ (l : List X). x ∷ l) (take_set xs k i y)
-
 module _ {X : Type 0} where
   without : (es zs : List X) (n : ℕ) (x : X) → n < length es → zs ≡ set (set es 0 (get_or es n x)) n (get_or es 0 x)
       → swap_remove (take (n + 1) es) 0 x ≡ take n zs
@@ -86,7 +67,7 @@ module _ {X : Type 0} where
       let l : length (take (n + 1) es) - 1 ≡ n = omega (arith, length-take-le (n + 1) es (omega arith)) in
       ap (λ k. take k (set (take (n + 1) es) 0 (get_or (take (n + 1) es) k x))) l
       ∙ ap (λ v. take n (set (take (n + 1) es) 0 v)) (get_or-take (n + 1) es n x (omega arith))
-      ∙ ap (take n) (sym (take_set es (n + 1) 0 (get_or es n x)))
+      ∙ ap (take n) (sym (take-set-lt (n + 1) es 0 (get_or es n x) (omega arith)))
       ∙ take-take n (n + 1) (set es 0 (get_or es n x)) (omega arith)
       ∙ sym (ap (take n) is ∙ take-set-le n (set es 0 (get_or es n x)) n (get_or es 0 x) (omega arith))
 

@@ -1,13 +1,14 @@
 -- What each step of a sift keeps.
-use Rattle.std.proofs.Common.{◌≡◌, ℕ, zero, suc, ◌+◌, ◌-◌, ◌*◌, ◌/◌, ◌<◌, ◌≤◌, Bool, true, false, List, get_or, refl, ap, ◌∙◌, ⊎_elim, arith}
+use Rattle.std.proofs.Common.{◌≡◌, ℕ, zero, suc, ◌+◌, ◌-◌, ◌*◌, ◌/◌, ◌<◌, ◌≤◌, Bool, true, false, List, length, get_or, sym, refl, ap, ◌∙◌, ⊎_elim, arith}
 use Rattle.std.specs.Cmp.{IsStrictWeakOrder}
 use Rattle.std.specs.Slice.Heapsort.{IsHeapWithin, IsNotBelowChildren}
 use Rattle.std.specs.BinaryHeap.Sift.{IsHeapWithHole}
 use Rattle.std.proofs.lemmas.Bool.{cases_eq}
 use Rattle.std.proofs.lemmas.Bool.Decides.{nat_tests}
+use Rattle.std.proofs.lemmas.List.{get_or_default}
 use Rattle.queue.specs.declared.Entry.{Entry}
 use Rattle.price.specs.Laws.{Order}
-use Rattle.queue.specs.Queues.{after}
+use Rattle.queue.specs.Queues.{before, after}
 
 -- ys is xs with the elements at a and b in each other's place, as `swap` says it
 abbrev pub Places : {X : Type 0} → List X → List X → ℕ → ℕ → Type 0
@@ -28,14 +29,6 @@ module _ {X : Type 0} (lt : X → X → Bool) where
     (λ p k d a b f u v. h p k d (omega arith) a b (omega arith), λ p k d a b f g i. absurd (omega arith)),
     λ k d a b f. absurd (omega arith),
   )
-
-  pub closes : (xs : List X) (j n : ℕ) → ((p : ℕ) (d : X) → p * 2 + 1 ≤ j → j ≤ p * 2 + 2 → lt (get_or xs p d) (get_or xs j d) ≡ false)
-      → Up lt xs j n → IsHeapWithin lt xs 0 n
-  closes xs j n over h = λ p k d lo a b f. ⊎_elim
-      (λ e. by _ _ _ _ (ap (λ m. get_or xs m d) e) refl (h.1 k d (omega arith) (omega arith) f))
-      (λ u. ⊎_elim
-      (λ e. by _ _ _ _ refl (ap (λ m. get_or xs m d) e) (over p d (omega arith) (omega arith)))
-      (λ v. h.0.0 p k d a b f u v) (cases_eq k j)) (cases_eq p j)
 
   pub up : IsStrictWeakOrder lt → (xs ys : List X) (j c n : ℕ) → j * 2 + 1 ≤ c → c ≤ j * 2 + 2 → c < n → Places xs ys j c
       → ((d : X) → lt (get_or xs j d) (get_or xs c d) ≡ true) → Up lt xs c n → Up lt ys j n
@@ -62,29 +55,12 @@ module _ {X : Type 0} (lt : X → X → Bool) where
       ((p k : ℕ) (d : X) → p * 2 + 1 ≤ k → k ≤ p * 2 + 2 → k < n → (p ≡ j → ⊥) → lt (get_or xs p d) (get_or xs k d) ≡ false)
       × ((p k : ℕ) (d : X) → p * 2 + 1 ≤ j → j ≤ p * 2 + 2 → j * 2 + 1 ≤ k → k ≤ j * 2 + 2 → k < n → lt (get_or xs p d) (get_or xs k d) ≡ false)
 
-  pub begins : (xs : List X) (n : ℕ) → IsHeapWithin lt xs 1 n → Down xs 0 n
-  begins xs n h = (λ p k d b e f u. h p k d (omega arith) b e f, λ p k d b e f g i. absurd (omega arith))
-
-  pub at_leaf : (xs : List X) (j n : ℕ) → n ≤ j * 2 + 1 → Down xs j n → IsHeapWithin lt xs 0 n
-  at_leaf xs j n l h = λ p k d a b e f. h.0 p k d b e f (omega arith)
-
   itself : IsStrictWeakOrder lt → (xs : List X) (j k : ℕ) (d : X) → k ≡ j → lt (get_or xs j d) (get_or xs k d) ≡ false
   itself o xs j k d e = by _ _ _ _ refl (ap (λ m. get_or xs m d) e) (never (get_or xs j d) _ refl)
     where
       never : (x : X) (b : Bool) → lt x x ≡ b → lt x x ≡ false
       never x true e = o.one_way x x e
       never x false e = e
-
-  pub only_child : IsStrictWeakOrder lt → (xs : List X) (j c n : ℕ) → c ≡ j * 2 + 1 → n ≤ c + 1 → IsNotBelowChildren lt xs j c n
-  only_child o xs j c n e l = λ k d a b f. itself o xs c k d (omega arith)
-
-  pub left_child : IsStrictWeakOrder lt → (xs : List X) (j c n : ℕ) → c ≡ j * 2 + 1 → ((d : X) → lt (get_or xs c d) (get_or xs (c + 1) d) ≡ false)
-      → IsNotBelowChildren lt xs j c n
-  left_child o xs j c n e t = λ k d a b f. ⊎_elim (itself o xs c k d) (λ u. let p : k ≡ c + 1 = omega arith in by _ _ _ _ refl (ap (λ m. get_or xs m d) p) (t d)) (cases_eq k c)
-
-  pub right_child : IsStrictWeakOrder lt → (xs : List X) (j c n : ℕ) → c ≡ j * 2 + 1 → ((d : X) → lt (get_or xs c d) (get_or xs (c + 1) d) ≡ true)
-      → IsNotBelowChildren lt xs j (c + 1) n
-  right_child o xs j c n e t = λ k d a b f. ⊎_elim (itself o xs (c + 1) k d) (λ u. let p : k ≡ c = omega arith in by _ _ _ _ refl (ap (λ m. get_or xs m d) p) (o.one_way _ _ (t d))) (cases_eq k (c + 1))
 
   pub rests : IsStrictWeakOrder lt → (xs : List X) (j c n : ℕ) → ((d : X) → lt (get_or xs j d) (get_or xs c d) ≡ false) → IsNotBelowChildren lt xs j c n → Down xs j n
       → IsHeapWithin lt xs 0 n
@@ -115,6 +91,11 @@ module _ {X : Type 0} (lt : X → X → Bool) where
   pub agrees : (xs ys : List X) (low n m : ℕ) → m ≤ n → ((i : ℕ) (d : X) → low ≤ i → i < m → get_or ys i d ≡ get_or xs i d) → IsHeapWithin lt xs low n
       → IsHeapWithin lt ys low m
   agrees xs ys low n m le e h = λ p k d lo a b f. by _ _ _ _ (e p d lo (omega arith)) (e k d (omega arith) f) (h p k d lo a b (omega arith))
+
+-- what a test of two entries of a list tells of them
+pub told : {C : Type 0} (below : C → C → Bool) (xs : List (Entry C)) (i j : ℕ) (x y : Entry C) → i < length xs → j < length xs → x ≡ get_or xs i x
+    → y ≡ get_or xs j y → (r : Bool) → r ≡ before below x y → (d : Entry C) → before below (get_or xs i d) (get_or xs j d) ≡ r
+told below xs i j x y li lj ix iy r e d = sym (λ k. before below ((ix ∙ get_or_default xs i x d li) k) ((iy ∙ get_or_default xs j y d lj) k)) ∙ sym e
 
 -- the order of entries, from the laws of the order of costs
 module _ {C : Type 0} (below : C → C → Bool) (law : Order below) where

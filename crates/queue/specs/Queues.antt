@@ -16,11 +16,11 @@
 -- | Same      | a call left the queue as it was                                                            |
 -- | Pushed    | after a push it holds what it held, and the entry                                          |
 -- | Popped    | after a pop it holds what it held, but the entry that was yielded                          |
--- | Tells     | r says whether the entry at i goes before that at j                                        |
--- | Foremost  | no child of the entry at i goes before the entry at c                                      |
+-- | IsParent  | the entry at p is the parent of the one at k                                               |
+-- | GoesFirst | the entry at c is a child of the one at i, and no child of that goes before it             |
 -- | Rising    | heaped but for the last entry, where a sift up starts                                      |
 -- | Sinking   | heaped but for the first entry, where a sift down starts                                   |
-use Rattle.std.specs.Prelude.{◌≡◌, ℕ, ◌+◌, ◌<◌, ◌≤◌, Bool, true, false, cond, List, ◌∷◌, length, take, nat_lt, slice_index_or}
+use Rattle.std.specs.Prelude.{◌≡◌, ℕ, ◌+◌, ◌*◌, ◌<◌, ◌≤◌, Bool, true, false, cond, List, ◌∷◌, length, take, nat_lt}
 use Rattle.std.specs.Slice.Heapsort.{IsHeapWithin, IsNotBelowChildren}
 use Rattle.std.specs.List.Sorted.{IsPermutation}
 use Rattle.std.specs.List.{AllByRecursion}
@@ -69,11 +69,13 @@ pub record Popped {C : Type 0} (x : Entry C) (q q' : Queue C) : Type 0 where
   pub count : q.count ≡ q'.count + 1
   pub takes : IsPermutation (held q) (x ∷ held q')
 
-abbrev pub Tells : {C : Type 0} → (C → C → Bool) → List (Entry C) → ℕ → ℕ → Bool → Type 0
-Tells {C} below es i j r = (d : Entry C) → before below (slice_index_or es i d) (slice_index_or es j d) ≡ r
+abbrev pub IsParent : ℕ → ℕ → Type 0
+IsParent p k = (p * 2 + 1 ≤ k) × (k ≤ p * 2 + 2)
 
-abbrev pub Foremost : {C : Type 0} → (C → C → Bool) → List (Entry C) → ℕ → ℕ → Type 0
-Foremost below es i c = IsNotBelowChildren (after below) es i c (length es)
+pub record GoesFirst {C : Type 0} (below : C → C → Bool) (es : List (Entry C)) (i c : ℕ) : Type 0 where
+  pub child : IsParent i c
+  pub within : c < length es
+  pub foremost : IsNotBelowChildren (after below) es i c (length es)
 
 abbrev pub Rising : {C : Type 0} → (C → C → Bool) → List (Entry C) → Type 0
 Rising below es = (n : ℕ) → n + 1 ≡ length es → Heaped below n es

@@ -3,45 +3,29 @@
 
 ghost use Rattle.std.specs.Prelude.{◌≡◌, ◌+◌, ◌*◌, ◌^◌, ◌<◌, ◌≤◌, Bool, length, MatchBool, MatchOption};
 ghost use Rattle.std.specs.List.Sorted.{IsPermutation};
-ghost use Rattle.queue.specs.Queues.{slice, held, has_room, Heaped, Ordered, First, Idle, Same, Pushed, Popped, Tells, Foremost, Rising, Sinking};
+ghost use Rattle.queue.specs.Queues.{before, slice, held, has_room, Heaped, Ordered, First, Idle, Same, Pushed, Popped, IsParent, GoesFirst, Rising, Sinking};
 
 use price::rule::PriceRule;
 
 /// A node, and what it costs.
-#[derive(Clone, Copy)]
+#[derive(Clone, Copy, Debug, PartialEq, Eq)]
 pub struct Entry<C> {
     pub cost: C,
     pub node: usize,
 }
 
-// Whether the entry at `i` goes before the one at `j`.
-fn goes_before<R: PriceRule>(rule: &R, s: &[Entry<R::Cost>], i: usize, j: usize) -> bool
-    requires { (i < length s.now) × (j < length s.now) }
-    ensures { Tells R.below s.now i j result }
+// Whether the first entry goes before the second.
+fn goes_before<R: PriceRule>(rule: &R, x: &Entry<R::Cost>, y: &Entry<R::Cost>) -> bool
+    ensures { result ≡ before R.below x.now y.now }
 {
-    if rule.is_below(s[i].cost, s[j].cost) {
-        true
-    } else if rule.is_below(s[j].cost, s[i].cost) {
-        false
-    } else {
-        s[i].node < s[j].node
-    }
+    rule.is_below(x.cost, y.cost) || (!rule.is_below(y.cost, x.cost) && x.node < y.node)
 }
 
-// The place of the parent of the entry at `at`.
-fn parent_of(at: usize) -> usize
-    requires { 0 < at }
-    ensures { (result * 2 + 1 ≤ at) × (at ≤ result * 2 + 2) }
+// The place of the parent of the entry at `at`; the first entry has none.
+fn parent_of(at: usize) -> Option<usize>
+    ensures { MatchOption result (at ≡ 0) (λ p. IsParent p at) }
 {
-    (at - 1) / 2
-}
-
-// The place of the left child of the entry at `at`; the right one stands next.
-fn left_of(at: usize) -> usize
-    requires { at * 2 + 1 < 2 ^ 64 }
-    ensures { result ≡ at * 2 + 1 }
-{
-    2 * at + 1
+    Some(at.checked_sub(1)? / 2)
 }
 
 // Brings the last entry up to its place.
@@ -51,9 +35,8 @@ fn sift_up<R: PriceRule>(rule: &R, s: &mut [Entry<R::Cost>])
     ensures order { Rising R.below s.old → Heaped R.below (length s.new) s.new }
 {
     let mut at = s.len() - 1;
-    while at > 0 {
-        let parent = parent_of(at);
-        if !goes_before(rule, s, at, parent) {
+    while let Some(parent) = parent_of(at) {
+        if !goes_before(rule, &s[at], &s[parent]) {
             return;
         }
         s.swap(parent, at);
@@ -61,17 +44,19 @@ fn sift_up<R: PriceRule>(rule: &R, s: &mut [Entry<R::Cost>])
     }
 }
 
-// The child of `at` that goes first.
-fn first_child<R: PriceRule>(rule: &R, s: &[Entry<R::Cost>], at: usize) -> usize
-    requires { at * 2 + 1 < length s.now }
-    ensures child { (at * 2 + 1 ≤ result) × (result ≤ at * 2 + 2) × (result < length s.now) }
-    ensures foremost { Foremost R.below s.now at result }
+// The child of `at` that goes first; a leaf has none.
+fn first_child<R: PriceRule>(rule: &R, s: &[Entry<R::Cost>], at: usize) -> Option<usize>
+    ensures { MatchOption result (length s.now ≤ at * 2 + 1) (λ c. GoesFirst R.below s.now at c) }
 {
-    let left = left_of(at);
-    if left + 1 < s.len() && goes_before(rule, s, left + 1, left) {
-        left + 1
+    if at >= s.len() / 2 {
+        return None;
+    }
+    let left = 2 * at + 1;
+    let right = left + 1;
+    if right < s.len() && goes_before(rule, &s[right], &s[left]) {
+        Some(right)
     } else {
-        left
+        Some(left)
     }
 }
 
@@ -81,9 +66,8 @@ fn sift_down<R: PriceRule>(rule: &R, s: &mut [Entry<R::Cost>])
     ensures order { Sinking R.below s.old → Heaped R.below (length s.new) s.new }
 {
     let mut at = 0;
-    while at < s.len() / 2 {
-        let child = first_child(rule, s, at);
-        if !goes_before(rule, s, child, at) {
+    while let Some(child) = first_child(rule, s, at) {
+        if !goes_before(rule, &s[child], &s[at]) {
             return;
         }
         s.swap(at, child);
@@ -92,6 +76,7 @@ fn sift_down<R: PriceRule>(rule: &R, s: &mut [Entry<R::Cost>])
 }
 
 /// Entries at the front of a lent slice, as many as `count` says; what stands behind them is free.
+// A slice with a count beside it, since the caller lends the memory; the rule is lent to each call, and not kept.
 #[derive(Drop)]
 pub struct Queue<'a, C> {
     entries: &'a mut [Entry<C>],
@@ -123,7 +108,7 @@ impl<'a, C: Copy> Queue<'a, C> {
         self.count < self.entries.len()
     }
 
-    /// Adds an entry, and says whether there was room for it.
+    /// Adds an entry, and says whether there was room for it, as a set's `insert` says whether it took what was given.
     pub fn push<R: PriceRule<Cost = C>>(&mut self, rule: &R, e: Entry<C>) -> bool
         ensures value { result ≡ has_room self.old }
         ensures after { MatchBool result (Pushed e self.old self.new) (Same self.old self.new) }
@@ -149,13 +134,11 @@ impl<'a, C: Copy> Queue<'a, C> {
         ensures room { length (slice self.new) ≡ length (slice self.old) }
         ensures lent { self.new.entries.ghost_name ≡ self.old.entries.ghost_name }
     {
-        if self.count == 0 {
-            return None;
-        }
         if self.count > self.entries.len() {
             return None;
         }
-        let n = self.count - 1;
+        let n = self.count.checked_sub(1)?;
+        // Field by field, as entries are read here; they are written whole.
         let top = Entry {
             cost: self.entries[0].cost,
             node: self.entries[0].node,
