@@ -1,10 +1,10 @@
 -- What is left of a listing, as it is written production by production.
-use Rattle.std.proofs.Common.{◌≡◌, ℕ, ◌+◌, ◌-◌, ◌<◌, ◌≤◌, true, false, List, [], ◌∷◌, ◌++◌, length, get_or, sym, refl, ap, ◌∙◌, arith}
+use Rattle.std.proofs.Common.{◌≡◌, ℕ, ◌+◌, ◌-◌, ◌<◌, ◌≤◌, true, false, List, [], ◌∷◌, ◌++◌, length, get_or, sym, ap, ◌∙◌, arith}
 use Rattle.theory.specs.Books.{State}
 use Rattle.theory.specs.Productions.{Production, production}
 use Rattle.listing.specs.declared.write.Productions.{Productions}
 use Rattle.listing.specs.Nodes.{state_in}
-use Rattle.listing.specs.Order.{joined, stands, of_node, of_class, of_marked, left_over}
+use Rattle.listing.specs.Order.{joined, stands, of_node, of_marked, left_over}
 use Rattle.listing.proofs.Joined.{joined_found, joined_none}
 use Rattle.listing.proofs.Order.{node_taken, node_passed, class_taken, class_passed}
 

@@ -5,13 +5,13 @@ use Rattle.std.proofs.lemmas.Bool.{cases_eq, cases_lt, lt-ltb, le-ltb}
 use Rattle.std.proofs.lemmas.List.{get_or-set_same, get_or-set_other, get_or-replicate, get_or_past}
 use Rattle.theory.specs.Steps.{SetAt, falses}
 use Rattle.theory.proofs.Stages.{falses_set}
-use Rattle.theory.specs.Books.{State, node_at, class as class_at}
-use Rattle.theory.specs.Productions.{Part, Reached, top, below}
+use Rattle.theory.specs.Books.{State, class as class_at}
+use Rattle.theory.specs.Productions.{Reached, top, below}
 use Rattle.book.specs.declared.row.Row.{Row}
 use Rattle.book.specs.Rows.{row, class}
 use Rattle.listing.specs.Nodes.{state_in}
-use Rattle.listing.specs.Marking.{IsMarked, Covered, Closed, Misses, Missed, OnlyReached, zeros}
-use Rattle.listing.proofs.Nodes.{Counted, nodes_in, class_in, counted}
+use Rattle.listing.specs.Marking.{IsMarked, Covered, Closed, Missed, OnlyReached, zeros}
+use Rattle.listing.proofs.Nodes.{Counted, class_in, counted}
 
 module _ (xs : List Row) (ms : List ℕ) (j : ℕ) where
   -- the byte of a node's class

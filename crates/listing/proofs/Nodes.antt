@@ -1,15 +1,14 @@
 -- The state that rows of nodes hold, read off the rows: nodes, classes, parts and productions.
-use Rattle.std.proofs.Common.{cond, ltb, ◌≡◌, ℕ, zero, suc, ◌<◌, ◌≤◌, ◌⊎◌, List, length, take, sym, refl, ap, ◌∙◌, subst, inl, inr, arith}
+use Rattle.std.proofs.Common.{cond, eqb, ltb, ◌≡◌, ℕ, zero, suc, ◌<◌, ◌≤◌, ◌⊎◌, List, length, sym, refl, ap, ◌∙◌, subst, inl, inr, arith}
+use Rattle.std.proofs.lemmas.Bool.{ne_eqb, cond-false}
 use lib.ListN.{length-map, get_or-map}
-use Rattle.std.proofs.lemmas.List.{length-take-le, get_or-take}
 use Rattle.theory.specs.Books.{State, node_at, class as class_at}
 use Rattle.theory.specs.Productions.{Part, made_by, production}
 use Rattle.book.specs.declared.row.Row.{Row}
 use Rattle.book.specs.declared.row.Node.{Node}
-use Rattle.book.specs.Rows.{absent, row, class, TidyNode}
-use Rattle.book.specs.Layout.{Contents, entry, entry_of}
-use Rattle.book.specs.Invariant.{Sound}
-use Rattle.listing.specs.Nodes.{state_in, class_of_part}
+use Rattle.book.specs.Rows.{absent, row, class}
+use Rattle.book.specs.Layout.{entry, entry_of}
+use Rattle.listing.specs.Nodes.{state_in, part_at, class_of_part}
 
 -- the parts that a row counts
 abbrev pub Counted : Node → ℕ → Type 0
@@ -54,15 +53,23 @@ module _ (xs : List Row) where
       let x = (row xs j).node in
       part_counted x.symbol x.parts x.left x.right p (subst (Part p) (node_in j) q)
 
-  pub left_in : (j : ℕ) → 0 < (row xs j).node.parts → Part (row xs j).node.left (node_at (state_in xs) j)
+  left_in : (j : ℕ) → 0 < (row xs j).node.parts → Part (row xs j).node.left (node_at (state_in xs) j)
   left_in j h =
       let x = (row xs j).node in
       subst (Part x.left) (sym (node_in j)) (left_part x.symbol x.parts x.left x.right h)
 
-  pub right_in : (j : ℕ) → 1 < (row xs j).node.parts → Part (row xs j).node.right (node_at (state_in xs) j)
+  right_in : (j : ℕ) → 1 < (row xs j).node.parts → Part (row xs j).node.right (node_at (state_in xs) j)
   right_in j h =
       let x = (row xs j).node in
       subst (Part x.right) (sym (node_in j)) (right_part x.symbol x.parts x.left x.right h)
+
+  -- each part that a row counts is one
+  pub part_in : (j i : ℕ) → i < (row xs j).node.parts → (row xs j).node.parts ≤ 2 → Part (part_at (row xs j).node i) (node_at (state_in xs) j)
+  part_in j zero h k = left_in j h
+  part_in j (suc i) h k =
+      let x = (row xs j).node in
+      let e : part_at x (suc i) ≡ x.right = cond-false (eqb (suc i) 0) _ _ (ne_eqb _ 0 (λ e. absurd (omega arith))) in
+      subst (λ (p : ℕ). Part p (node_at (state_in xs) j)) (sym e) (right_in j (omega arith))
 
   pub production_in : (j : ℕ) → (row xs j).node.parts ≤ 2
       → production (state_in xs) j

@@ -1,10 +1,10 @@
 -- What a search over a range of numbers finds, by a closure that each call leaves as it was.
-use Rattle.std.proofs.Common.{◌≡◌, ℕ, ◌+◌, ◌-◌, ◌<◌, ◌≤◌, ◌⊎◌, inl, inr, Bool, true, false, List, [], ◌∷◌, Some, None, Option, IfSome, IsSomeAnd, IsTrue, MatchOption, sym, refl, ap, ◌∙◌, subst, arith, Bor}
+use Rattle.std.proofs.Common.{◌≡◌, ℕ, ◌+◌, ◌-◌, ◌<◌, ◌≤◌, ◌⊎◌, inl, inr, Bool, true, false, List, [], ◌∷◌, Some, None, Option, IfSome, IsSomeAnd, IsTrue, MatchOption, sym, ap, ◌∙◌, subst, arith, Bor}
 use Rattle.std.proofs.lemmas.Bool.{cases_eq}
 use denote.Param.Members.{Mut}
 use Rattle.std.specs.declared.ops.Range.{Range}
 use Rattle.std.specs.Fn.{Called, CalledAt}
-use Rattle.std.specs.Iterator.{Yields, YieldsThen, FindsItem, ChecksAll}
+use Rattle.std.specs.Iterator.{Yields, FindsItem, ChecksAll}
 use Rattle.std.specs.Bool.{MatchBool}
 use Rattle.std.specs.Iterator.Runs.{SomeRun, CallKeepsClosure, AllItemsGive, IsFirstToGive}
 use Rattle.std.specs.Option.{option_map}

@@ -1,9 +1,8 @@
 -- The guard clears the marking bytes, as the listing expects of its caller; what is written is exact as a grammar.
-use Rattle.std.proofs.Common.{ℕ, length, map, replicate, ap, ◌∙◌}
+use Rattle.std.proofs.Common.{ℕ, replicate, ap, ◌∙◌}
 use Rattle.book.specs.Held.{contents, state}
 use Rattle.book.proofs.Whole.{sound_of}
 use Rattle.book.proofs.Booked.{book_of}
-use Rattle.listing.specs.Told.{plain}
 use Rattle.listing.proofs.Exact.{spells}
 use Rattle.listing.proofs.list.list.Goals as goal
 

@@ -3,7 +3,7 @@ use Rattle.std.proofs.Common.{ℕ, ◌≡◌, ◌<◌, ◌≤◌, List, map, len
 use lib.ListN.{length-map}
 use Rattle.book.specs.declared.row.Row.{Row}
 use Rattle.book.specs.declared.nodes.Nodes.{Nodes}
-use Rattle.book.specs.Held.{contents, state}
+use Rattle.book.specs.Held.{state}
 use Rattle.theory.specs.Calls.{Listing, Listing.too_long, Listing.written, Answer}
 use Rattle.theory.specs.Productions.{Listed}
 use Rattle.listing.specs.declared.production.Production.{Production}

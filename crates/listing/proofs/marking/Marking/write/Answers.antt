@@ -1,11 +1,10 @@
 -- The listing is counted, and then written production by production.
-use Rattle.std.proofs.Common.{ℕ, suc, ◌≡◌, ◌<◌, ◌≤◌, ◌*◌, ◌^◌, List, ◌++◌, map, length, take, drop, set, inl, refl, sym, ap, ◌∙◌, arith}
+use Rattle.std.proofs.Common.{ℕ, suc, ◌≡◌, ◌<◌, ◌^◌, ◌++◌, map, length, take, drop, set, inl, refl, sym, ap, ◌∙◌, arith}
 use lib.ListN.{length-map}
 use Rattle.std.specs.declared.iter.Enumerate.{Enumerate}
 use Rattle.std.specs.Iterator.Adapters.{enumerate_source, enumerate_count}
 use Rattle.std.proofs.lemmas.List.{map-set}
 use Rattle.std.proofs.lemmas.Iterator.Consumers.{count_from_yields_List, YieldsList-from_first}
-use Rattle.book.specs.declared.row.Row.{Row}
 use Rattle.listing.specs.declared.write.Productions.{Productions}
 use Rattle.listing.specs.declared.marking.Marking.{Marking}
 use Rattle.theory.specs.Calls.{granted, refused}
@@ -14,7 +13,7 @@ use Rattle.text.specs.declared.cause.Layer.{Layer}
 use Rattle.listing.specs.Told.{plain}
 use Rattle.listing.specs.Nodes.{state_in}
 use Rattle.listing.specs.Order.{listing}
-use Rattle.listing.specs.Steps.{Writing, Writing.too_long, Writing.all}
+use Rattle.listing.specs.Steps.{Writing.too_long, Writing.all}
 use Rattle.listing.proofs.Nodes.{nodes_in}
 use Rattle.listing.proofs.Order.{classes_few}
 use Rattle.listing.proofs.Left.{left}

@@ -1,5 +1,4 @@
 -- The production is read off the row.
-use Rattle.std.proofs.Common.{sym, ◌∙◌}
 use Rattle.listing.proofs.Nodes.{production_in}
 use Rattle.listing.proofs.place.Place.production.Goals as goal
 

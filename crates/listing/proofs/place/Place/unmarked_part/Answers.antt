@@ -1,9 +1,8 @@
 -- The class found is that of a part; if none is found, those of all parts are marked.
-use Rattle.std.proofs.Common.{rules, tests, ℕ, ◌<◌, ◌≤◌, ◌≡◌, Some, None, Option, MatchOption, List, subst, sym, arith}
+use Rattle.std.proofs.Common.{rules, ℕ, ◌<◌, ◌≤◌, Some, None, Option, MatchOption, List, arith}
 use Rattle.book.specs.declared.row.Row.{Row}
-use Rattle.book.specs.Rows.{row, class}
-use Rattle.listing.specs.Nodes.{state_in, part_at}
-use Rattle.listing.specs.Marking.{IsMarked, Misses, UnmarkedPart, UnmarkedAt}
+use Rattle.listing.specs.Nodes.{state_in}
+use Rattle.listing.specs.Marking.{Misses, UnmarkedPart, UnmarkedAt}
 use Rattle.listing.proofs.Marks.{covered_by}
 use Rattle.listing.proofs.Ranges.{mapped}
 use Rattle.listing.proofs.place.Place.unmarked_part.Goals as goal

@@ -1,12 +1,12 @@
 -- The next production is that of the next node of the class, or else of the first of the next class that is marked.
-use Rattle.std.proofs.Common.{rules, tests, ◌≡◌, ◌<◌, ◌≤◌, length, ℕ, ◌+◌, ◌-◌, Bool, true, false, List, [], ◌∷◌, ◌++◌, get_or, Some, None, Option, sym, ap, ◌∙◌, subst, arith}
+use Rattle.std.proofs.Common.{rules, tests, ◌≡◌, length, true, false, ◌∷◌, get_or, Some, None, sym, ap, ◌∙◌, subst, arith}
 use Rattle.theory.specs.Productions.{production}
 use Rattle.listing.specs.declared.marking.Marking.{Marking}
 use Rattle.listing.specs.Nodes.{state_in}
 use Rattle.listing.specs.Told.{plain}
 use Rattle.listing.specs.Order.{stands, left_over}
 use Rattle.listing.proofs.Nodes.{nodes_in}
-use Rattle.listing.proofs.Ranges.{Found, NotFound, found}
+use Rattle.listing.proofs.Ranges.{Found, found}
 use Rattle.listing.proofs.Left.{node_found, no_node_found, class_found, no_class_found, nothing_left}
 use Rattle.listing.proofs.write.ProductionsIterator.next.Goals as goal
 
@@ -24,9 +24,9 @@ invariant_of-self c =
 
 steps : (c : goal.After-production)
     → left_over (state_in c.args.self.now.marking.nodes.rows.now) c.args.self.now.marking.bytes.now c.args.self.now.class c.args.self.now.nodes.start
-        c.args.self.now.nodes.end c.args.self.now.classes.start c.args.self.now.classes.end
+    c.args.self.now.nodes.end c.args.self.now.classes.start c.args.self.now.classes.end
     ≡ plain c.production.result ∷ left_over (state_in c.args.self.now.marking.nodes.rows.now) c.args.self.now.marking.bytes.now c.loop-at.self.class
-        c.find.new.self.start c.find.new.self.end c.loop-at.self.classes.start c.loop-at.self.classes.end
+    c.find.new.self.start c.find.new.self.end c.loop-at.self.classes.start c.loop-at.self.classes.end
 steps c =
     let i = c.args.self.now in
     let s = state_in i.marking.nodes.rows.now in
@@ -35,9 +35,9 @@ steps c =
     let P = c.place.ensures in
     let e : plain c.production.result ≡ production s c.in-Some.at = c.production.ensures ∙ (λ z. production (state_in (P.marking z).nodes.rows.now) (P.at z)) in
     sym (subst (λ (m : Marking). left_over (state_in m.nodes.rows.now) m.bytes.now t.class t.nodes.start t.nodes.end t.classes.start t.classes.end
-        ≡ left_over s i.marking.bytes.now i.class i.nodes.start i.nodes.end i.classes.start i.classes.end) c.loop-at.invariant.marking c.loop-at.invariant.same)
+    ≡ left_over s i.marking.bytes.now i.class i.nodes.start i.nodes.end i.classes.start i.classes.end) c.loop-at.invariant.marking c.loop-at.invariant.same)
     ∙ node_found s i.marking.bytes.now t.class t.nodes.start t.nodes.end t.classes.start t.classes.end c.in-Some.at _ _ _
-        F.from F.within F.hit F.missed F.rest F.end e
+    F.from F.within F.hit F.missed F.rest F.end e
 
 pub returns-in-Some-clause-steps : goal.returns-in-Some-clause-steps
 returns-in-Some-clause-steps c =
@@ -45,7 +45,7 @@ returns-in-Some-clause-steps c =
     let t = c.loop-at.self in
     let u = c.find.new.self in
     subst (λ (m : Marking). left_over (state_in i.marking.nodes.rows.now) i.marking.bytes.now i.class i.nodes.start i.nodes.end i.classes.start i.classes.end
-        ≡ plain c.production.result ∷ left_over (state_in m.nodes.rows.now) m.bytes.now t.class u.start u.end t.classes.start t.classes.end)
+    ≡ plain c.production.result ∷ left_over (state_in m.nodes.rows.now) m.bytes.now t.class u.start u.end t.classes.start t.classes.end)
     (sym c.loop-at.invariant.marking) (steps c)
 
 pub returns-in-Some-clause-goes : goal.returns-in-Some-clause-goes
@@ -76,8 +76,8 @@ returns-in_err-next-clause-steps c =
     rw c.from_residual.ensures (
       sym (subst (λ (m : Marking). left_over (state_in m.nodes.rows.now) m.bytes.now t.class t.nodes.start t.nodes.end t.classes.start t.classes.end
           ≡ left_over s ms i.class i.nodes.start i.nodes.end i.classes.start i.classes.end) c.loop-at.invariant.marking c.loop-at.invariant.same)
-      ∙ no_node_found s ms t.class t.nodes.start t.nodes.end t.classes.start t.classes.end N.missed
-      ∙ no_class_found s ms t.classes.start t.classes.end M.missed,
+          ∙ no_node_found s ms t.class t.nodes.start t.nodes.end t.classes.start t.classes.end N.missed
+          ∙ no_class_found s ms t.classes.start t.classes.end M.missed,
       nothing_left (state_in t.marking.nodes.rows.now) t.marking.bytes.now v.start v.end t.class u.start u.end N.rest M.rest,
     )
 

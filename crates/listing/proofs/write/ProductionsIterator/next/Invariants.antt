@@ -1,5 +1,5 @@
 -- The productions that are left are those that were left when the call began.
-use Rattle.std.proofs.Common.{◌≡◌, ◌≤◌, ◌-◌, length}
+use Rattle.std.proofs.Common.{◌≡◌, ◌-◌}
 use Rattle.listing.specs.Nodes.{state_in}
 use Rattle.listing.specs.Order.{left_over}
 use Rattle.listing.proofs.write.ProductionsIterator.next.Given as goal
