@@ -1,5 +1,5 @@
 -- The lowest node that has a production.
-use Rattle.std.proofs.Common.{◌≡◌, ℕ, zero, suc, ◌+◌, ◌<◌, ◌≤◌, Bool, true, false, cond, eqb, ◌⊎◌, sym, refl, ap, ◌∙◌, subst, inl, inr, not-suc-le-zero, add-one, arith}
+use Rattle.std.proofs.Common.{◌≡◌, ℕ, zero, suc, ◌<◌, ◌≤◌, Bool, true, false, cond, eqb, ◌⊎◌, sym, refl, ap, ◌∙◌, subst, inl, inr, not-suc-le-zero, arith}
 use Rattle.std.proofs.lemmas.Bool.{eq-eqb, eqb-true, cases_eq, cases_lt, both_ways, cond-true, cond-false}
 use Rattle.theory.specs.Books.{Node, leaf, over, pair, State, IsNode, node_at, class}
 use Rattle.theory.specs.Productions.{Production, made_by, production, FirstWith}
@@ -71,9 +71,15 @@ module _ (s : State) (p : Production) where
       go true f ih = (n, omega arith, sym (same_true _ _ (here (same_production p (production s n)) f e)), f)
       go false f ih = let t = ih f in let h : t.0 < n = t.1 in (t.0, omega arith, t.2, t.3)
 
-  -- one node more that has another
-  pub unmet_more : (i : ℕ) → same_production p (production s i) ≡ false → unmet s p i ≡ true → unmet s p (i + 1) ≡ true
-  unmet_more i e f = ap (unmet s p) (add-one i) ∙ cond-false (same_production p (production s i)) _ _ e ∙ f
+  -- no lower node has it
+  pub unmet_all : (n : ℕ) → ((i : ℕ) → i < n → production s i ≡ p → ⊥) → unmet s p n ≡ true
+  unmet_all zero h = refl
+  unmet_all (suc n) h =
+      cond-false (same_production p (production s n)) _ _ (differ (same_production p (production s n)) refl) ∙ unmet_all n (λ i l. h i (omega arith))
+    where
+      differ : (v : Bool) → same_production p (production s n) ≡ v → v ≡ false
+      differ true e = absurd (h n (omega arith) (sym (same_true p _ e)))
+      differ false e = refl
 
 pub stands_first : (s : State) (k j : ℕ) → IsNode s j → stands s k j ≡ true → (class s j ≡ k) × FirstWith s (production s j) j
 stands_first s k j h e =

@@ -1,9 +1,9 @@
 -- Lists joined one after another: how long they are together, what is in them, and when they are in order.
-use Rattle.std.proofs.Common.{◌≡◌, ℕ, zero, suc, ◌+◌, ◌-◌, ◌*◌, ◌<◌, ◌≤◌, ◌⊎◌, List, [], ◌∷◌, ◌++◌, length, get_or, sym, refl, ap, ◌∙◌, subst, inl, inr, le_of_suc-le-suc, not-suc-le-zero, add-one, arith, length-append}
+use Rattle.std.proofs.Common.{◌≡◌, ℕ, zero, suc, ◌+◌, ◌-◌, ◌*◌, ◌<◌, ◌≤◌, ◌⊎◌, List, [], ◌∷◌, ◌++◌, length, get_or, sym, refl, ap, ◌∙◌, subst, inl, inr, le_of_suc-le-suc, not-suc-le-zero, arith, length-append}
 use mathlib.Core.List.Memᴰ
 use mathlib.Core.List.{Memᴰ}
 use Rattle.std.proofs.lemmas.Bool.{cases_eq, cases_lt}
-use Rattle.std.proofs.lemmas.List.{append-nil, get_or_append_left, get_or-append_right}
+use Rattle.std.proofs.lemmas.List.{get_or_append_left, get_or-append_right}
 use Rattle.listing.specs.Order.{joined}
 
 -- of any two places the lower has what goes before
@@ -39,59 +39,67 @@ module _ {A : Type 0} (R : A → A → Type 0) (d : A) where
       go (inr k) (inr m) = both _ _ _ _ (right a k) (right b m) (p (a - length xs) (b - length xs) (omega arith) (omega (arith, z)))
 
 module _ {A : Type 0} (f : ℕ → List A) where
-  -- one number more, with some or with none
-  pub joined_with : (n : ℕ) (xs : List A) → f n ≡ xs → joined f (n + 1) ≡ joined f n ++ xs
-  joined_with n xs e = ap (joined f) (add-one n) ∙ ap (λ (l : List A). joined f n ++ l) e
+  -- those that have none are passed over
+  joined_from : (d a m : ℕ) → ((j : ℕ) → a ≤ j → j < a + d → f j ≡ []) → joined f a (d + suc m) ≡ f (a + d) ++ joined f (a + d + 1) m
+  joined_from zero a m p = let e : a + 0 ≡ a = omega arith in let z : 0 + suc m ≡ suc m = omega arith in ap (joined f a) z ∙ ap (λ (i : ℕ). f i ++ joined f (i + 1) m) (sym e)
+  joined_from (suc d) a m p =
+      let e : a + 1 + d ≡ a + suc d = omega arith in
+      let z : suc d + suc m ≡ suc (d + suc m) = omega arith in
+      ap (joined f a) z
+      ∙ ap (λ (l : List A). l ++ joined f (a + 1) (d + suc m)) (p a (omega arith) (omega arith))
+      ∙ joined_from d (a + 1) m (λ j l k. p j (omega arith) (omega arith))
+      ∙ ap (λ (i : ℕ). f i ++ joined f (i + 1) m) e
 
-  pub joined_without : (n : ℕ) → f n ≡ [] → joined f (n + 1) ≡ joined f n
-  joined_without n e = joined_with n [] e ∙ append-nil (joined f n)
+  pub joined_found : (a b x : ℕ) → a ≤ x → x < b → ((j : ℕ) → a ≤ j → j < x → f j ≡ []) → joined f a (b - a) ≡ f x ++ joined f (x + 1) (b - (x + 1))
+  joined_found a b x l h p =
+      let e : b - a ≡ x - a + suc (b - (x + 1)) = omega arith in
+      let d : a + (x - a) ≡ x = omega arith in
+      ap (joined f a) e
+      ∙ joined_from (x - a) a (b - (x + 1)) (λ j k m. p j k (omega arith))
+      ∙ ap (λ (i : ℕ). f i ++ joined f (i + 1) (b - (x + 1))) d
 
-  pub length_more : (n : ℕ) → length (joined f (n + 1)) ≡ length (joined f n) + length (f n)
-  length_more n = ap length (joined_with n (f n) refl) ∙ length-append (joined f n) (f n)
+  pub joined_none : (a m : ℕ) → ((j : ℕ) → a ≤ j → j < a + m → f j ≡ []) → joined f a m ≡ []
+  joined_none a zero p = refl
+  joined_none a (suc m) p =
+      ap (λ (l : List A). l ++ joined f (a + 1) m) (p a (omega arith) (omega arith))
+      ∙ joined_none (a + 1) m (λ j l k. p j (omega arith) (omega arith))
 
-  -- no fewer of more numbers
-  pub joined_grows : (m n : ℕ) → m ≤ n → length (joined f m) ≤ length (joined f n)
-  joined_grows m zero h = let e : m ≡ 0 = omega arith in subst (λ (k : ℕ). length (joined f m) ≤ length (joined f k)) e (omega arith)
-  joined_grows m (suc n) h = go (cases_eq m (suc n)) (joined_grows m n)
-    where
-      go : (m ≡ suc n) ⊎ (m ≡ suc n → ⊥) → (m ≤ n → length (joined f m) ≤ length (joined f n)) → length (joined f m) ≤ length (joined f (suc n))
-      go (inl e) ih = subst (λ (k : ℕ). length (joined f m) ≤ length (joined f k)) e (omega arith)
-      go (inr e) ih =
-          let z : length (joined f n ++ f n) ≡ length (joined f n) + length (f n) = length-append (joined f n) (f n) in
-          let i = ih (omega arith) in
-          omega arith
-
-  -- room for all is room for those of n, after those below
-  pub joined_room : (m n : ℕ) → n < m → length (joined f n) + length (f n) ≤ length (joined f m)
-  joined_room m n h = omega (arith, length_more n, joined_grows (n + 1) m (omega arith))
-
-  pub joined_few : (b : ℕ) → ((i : ℕ) → length (f i) ≤ b) → (n : ℕ) → length (joined f n) ≤ n * b
-  joined_few b h zero = omega arith
-  joined_few b h (suc n) =
-      let z : length (joined f n ++ f n) ≡ length (joined f n) + length (f n) = length-append (joined f n) (f n) in
+  pub joined_few : (b : ℕ) → ((i : ℕ) → length (f i) ≤ b) → (a n : ℕ) → length (joined f a n) ≤ n * b
+  joined_few b h a zero = omega arith
+  joined_few b h a (suc n) =
+      let z : length (f a ++ joined f (a + 1) n) ≡ length (f a) + length (joined f (a + 1) n) = length-append (f a) (joined f (a + 1) n) in
       let e : suc n * b ≡ n * b + b = omega arith in
-      omega (arith, joined_few b h n, h n)
+      omega (arith, joined_few b h (a + 1) n, h a)
 
-  pub joined_every : (n i : ℕ) (x : A) → i < n → Memᴰ x (f i) → Memᴰ x (joined f n)
-  joined_every zero i x h m = absurd (not-suc-le-zero h)
-  joined_every (suc n) i x h m = go (cases_eq i n) (joined_every n i x)
+  pub joined_every : (a n i : ℕ) (x : A) → a ≤ i → i < a + n → Memᴰ x (f i) → Memᴰ x (joined f a n)
+  joined_every a zero i x l h m = absurd (omega arith)
+  joined_every a (suc n) i x l h m = go (cases_eq a i) (λ k. joined_every (a + 1) n i x k (omega arith) m)
     where
-      go : (i ≡ n) ⊎ (i ≡ n → ⊥) → (i < n → Memᴰ x (f i) → Memᴰ x (joined f n)) → Memᴰ x (joined f n ++ f n)
-      go (inl e) ih = Memᴰ.append_right (joined f n) (subst (λ (k : ℕ). Memᴰ x (f k)) e m)
-      go (inr e) ih = Memᴰ.append_left (f n) (ih (omega arith) m)
+      go : (a ≡ i) ⊎ (a ≡ i → ⊥) → (a + 1 ≤ i → Memᴰ x (joined f (a + 1) n)) → Memᴰ x (f a ++ joined f (a + 1) n)
+      go (inl e) ih = Memᴰ.append_left (joined f (a + 1) n) (subst (λ (k : ℕ). Memᴰ x (f k)) (sym e) m)
+      go (inr e) ih = Memᴰ.append_right (f a) (ih (omega arith))
 
-  pub joined_only : (n : ℕ) (x : A) → Memᴰ x (joined f n) → (i : ℕ) × (i < n) × Memᴰ x (f i)
-  joined_only zero x m = absurd (Memᴰ.not-nil m)
-  joined_only (suc n) x m = go (Memᴰ.append_cases (joined f n) m) (joined_only n x)
+  pub joined_only : (a n : ℕ) (x : A) → Memᴰ x (joined f a n) → (i : ℕ) × (a ≤ i) × (i < a + n) × Memᴰ x (f i)
+  joined_only a zero x m = absurd (Memᴰ.not-nil m)
+  joined_only a (suc n) x m = go (Memᴰ.append_cases (f a) m) (joined_only (a + 1) n x)
     where
-      go : Memᴰ x (joined f n) ⊎ Memᴰ x (f n) → (Memᴰ x (joined f n) → (i : ℕ) × (i < n) × Memᴰ x (f i))
-          → (i : ℕ) × (i < suc n) × Memᴰ x (f i)
-      go (inl q) ih = let t = ih q in let h : t.0 < n = t.1 in (t.0, omega arith, t.2)
-      go (inr q) ih = (n, omega arith, q)
+      go : Memᴰ x (f a) ⊎ Memᴰ x (joined f (a + 1) n) → (Memᴰ x (joined f (a + 1) n) → (i : ℕ) × (a + 1 ≤ i) × (i < a + 1 + n) × Memᴰ x (f i))
+          → (i : ℕ) × (a ≤ i) × (i < a + suc n) × Memᴰ x (f i)
+      go (inl q) ih = (a, omega arith, omega arith, q)
+      go (inr q) ih =
+          let t = ih q in
+          let l : a + 1 ≤ t.0 = t.1 in
+          let h : t.0 < a + 1 + n = t.2 in
+          (t.0, omega arith, omega arith, t.3)
 
-  pub joined_ordered : (R : A → A → Type 0) (d : A) → ((i : ℕ) → Ordered R d (f i)) → (n : ℕ)
-      → ((i j : ℕ) (x y : A) → i < j → j < n → Memᴰ x (f i) → Memᴰ y (f j) → R x y) → Ordered R d (joined f n)
-  joined_ordered R d o zero q = λ a b l h. absurd (not-suc-le-zero h)
-  joined_ordered R d o (suc n) q =
-      append_ordered R d (joined f n) (f n) (joined_ordered R d o n (λ i j x y l h. q i j x y l (omega arith))) (o n)
-      (λ x y m k. let t = joined_only n x m in q t.0 n x y t.1 (omega arith) t.2 k)
+  pub joined_ordered : (R : A → A → Type 0) (d : A) → ((i : ℕ) → Ordered R d (f i)) → (a n : ℕ)
+      → ((i j : ℕ) (x y : A) → i < j → j < a + n → Memᴰ x (f i) → Memᴰ y (f j) → R x y) → Ordered R d (joined f a n)
+  joined_ordered R d o a zero q = λ i j l h. absurd (not-suc-le-zero h)
+  joined_ordered R d o a (suc n) q =
+      append_ordered R d (f a) (joined f (a + 1) n) (o a)
+      (joined_ordered R d o (a + 1) n (λ i j x y l h. q i j x y l (omega arith)))
+      (λ x y m k.
+      let t = joined_only (a + 1) n y k in
+      let l : a + 1 ≤ t.0 = t.1 in
+      let h : t.0 < a + 1 + n = t.2 in
+      q a t.0 x y (omega arith) (omega arith) m t.3)

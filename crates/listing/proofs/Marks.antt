@@ -5,13 +5,13 @@ use Rattle.std.proofs.lemmas.Bool.{cases_eq, cases_lt, lt-ltb, le-ltb}
 use Rattle.std.proofs.lemmas.List.{get_or-set_same, get_or-set_other, get_or-replicate, get_or_past}
 use Rattle.theory.specs.Steps.{SetAt, falses}
 use Rattle.theory.proofs.Stages.{falses_set}
-use Rattle.theory.specs.Books.{State, node_at, class as class_at}
-use Rattle.theory.specs.Productions.{Part, Reached, top, below}
+use Rattle.theory.specs.Books.{State, class as class_at}
+use Rattle.theory.specs.Productions.{Reached, top, below}
 use Rattle.book.specs.declared.row.Row.{Row}
 use Rattle.book.specs.Rows.{row, class}
-use Rattle.listing.specs.Nodes.{state_in, NodeRows}
-use Rattle.listing.specs.Marking.{IsMarked, Covered, Closed, Misses, Missed, OnlyReached, zeros}
-use Rattle.listing.proofs.Nodes.{Counted, nodes_in, class_in, counted}
+use Rattle.listing.specs.Nodes.{state_in}
+use Rattle.listing.specs.Marking.{IsMarked, Covered, Closed, Missed, OnlyReached, zeros}
+use Rattle.listing.proofs.Nodes.{Counted, class_in, counted}
 
 module _ (xs : List Row) (ms : List ℕ) (j : ℕ) where
   -- the byte of a node's class
@@ -25,17 +25,6 @@ module _ (xs : List Row) (ms : List ℕ) (j : ℕ) where
       go : Counted (row xs j).node p → IsMarked ms (class xs p)
       go (inl t) = subst (λ (i : ℕ). IsMarked ms (class xs i)) (sym t.1) (f t.0)
       go (inr t) = subst (λ (i : ℕ). IsMarked ms (class xs i)) (sym t.1) (g t.0)
-
-  pub misses_part : NodeRows xs → (p : ℕ) → p < length xs → Part p (node_at (state_in xs) j) → get_or ms (class xs p) 0 ≡ 0
-      → Misses (state_in xs) ms j (class xs p)
-  misses_part R p h q e =
-      record {
-        part = p;
-        is_part = q;
-        of_part = sym (class_in xs p);
-        here = omega (arith, nodes_in xs, R.least p h);
-        unmarked = e;
-      }
 
 -- one node more
 pub closed_more : (s : State) (ms : List ℕ) (j : ℕ) → Closed s ms j → (IsMarked ms (class_at s j) → Covered s ms j) → Closed s ms (j + 1)

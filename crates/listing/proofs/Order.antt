@@ -1,5 +1,5 @@
 -- The productions of the marked classes, one after another, are the listing.
-use Rattle.std.proofs.Common.{◌≡◌, ℕ, ◌*◌, ◌≤◌, Bool, true, false, cond, eqb, List, [], ◌∷◌, length, get_or, sym, refl, ap, ◌∙◌, subst, not-suc-le-zero, arith}
+use Rattle.std.proofs.Common.{◌≡◌, ℕ, ◌+◌, ◌*◌, ◌<◌, ◌≤◌, Bool, true, false, cond, eqb, List, [], ◌∷◌, length, get_or, sym, refl, ap, ◌∙◌, subst, not-suc-le-zero, arith}
 use mathlib.Core.List.Memᴰ
 use mathlib.Core.List.{Memᴰ}
 use Rattle.std.proofs.lemmas.Bool.{eqb-false, eq-eqb, ne_eqb, cond-true, cond-false}
@@ -30,19 +30,19 @@ pub class_passed : (s : State) (ms : List ℕ) (k : ℕ) → get_or ms k 0 ≡ 0
 class_passed s ms k e = cond-true (eqb (get_or ms k 0) 0) _ _ (eq-eqb _ 0 e)
 
 -- a class has no more productions than there are nodes
-pub nodes_few : (s : State) (k n : ℕ) → length (joined (of_node s k) n) ≤ n
-nodes_few s k n = omega (arith, joined_few (of_node s k) 1 (λ j. go j (stands s k j)) n)
+pub nodes_few : (s : State) (k a n : ℕ) → length (joined (of_node s k) a n) ≤ n
+nodes_few s k a n = omega (arith, joined_few (of_node s k) 1 (λ j. go j (stands s k j)) a n)
   where
     go : (j : ℕ) (v : Bool) → length (cond v (production s j ∷ []) []) ≤ 1
     go j true = omega arith
     go j false = omega arith
 
-pub classes_few : (s : State) (ms : List ℕ) (b n : ℕ) → length s.nodes ≤ b → length (joined (of_marked s ms) n) ≤ n * b
-classes_few s ms b n h = joined_few (of_marked s ms) b (λ k. go k (eqb (get_or ms k 0) 0)) n
+pub classes_few : (s : State) (ms : List ℕ) (b a n : ℕ) → length s.nodes ≤ b → length (joined (of_marked s ms) a n) ≤ n * b
+classes_few s ms b a n h = joined_few (of_marked s ms) b (λ k. go k (eqb (get_or ms k 0) 0)) a n
   where
     go : (k : ℕ) (v : Bool) → length (cond v [] (of_class s k)) ≤ b
     go k true = omega arith
-    go k false = omega (arith, nodes_few s k (length s.nodes))
+    go k false = omega (arith, nodes_few s k 0 (length s.nodes))
 
 module _ (s : State) where
   from_of : (k : ℕ) (p : Production) → From s k p → p.of ≡ k
@@ -58,8 +58,9 @@ module _ (s : State) where
 
   class_from : (k : ℕ) (p : Production) → Memᴰ p (of_class s k) → From s k p
   class_from k p m =
-      let t = joined_only (of_node s k) (length s.nodes) p m in
-      let n = node_from k t.0 p t.1 t.2 in
+      let t = joined_only (of_node s k) 0 (length s.nodes) p m in
+      let h : t.0 < 0 + length s.nodes = t.2 in
+      let n = node_from k t.0 p (omega arith) t.3 in
       record { node = t.0; of_class = n.0; first = n.1 }
 
   node_ordered : (k j : ℕ) → Ordered (Before s) no_production (of_node s k j)
@@ -72,10 +73,10 @@ module _ (s : State) where
   -- of one class, by the lowest node
   class_ordered : (k : ℕ) → Ordered (Before s) no_production (of_class s k)
   class_ordered k =
-      joined_ordered (of_node s k) (Before s) no_production (node_ordered k) (length s.nodes)
+      joined_ordered (of_node s k) (Before s) no_production (node_ordered k) 0 (length s.nodes)
       (λ i j p q l h a b.
       let F = node_from k i p (omega arith) a in
-      let G = node_from k j q h b in
+      let G = node_from k j q (omega arith) b in
       let e = from_of k p (record { node = i; of_class = F.0; first = F.1 }) in
       let f = from_of k q (record { node = j; of_class = G.0; first = G.1 }) in
       by_node (e ∙ sym f) i j F.1 G.1 l)
@@ -98,7 +99,7 @@ module _ (s : State) (ms : List ℕ) where
   -- by class
   listing_ordered : Ordered (Before s) no_production (listing s ms)
   listing_ordered =
-      joined_ordered (of_marked s ms) (Before s) no_production marked_ordered (length s.nodes)
+      joined_ordered (of_marked s ms) (Before s) no_production marked_ordered 0 (length s.nodes)
       (λ i j p q l h a b.
       let e = from_of s i p (marked_from i p a).1 in
       let f = from_of s j q (marked_from j q b).1 in
@@ -106,9 +107,9 @@ module _ (s : State) (ms : List ℕ) where
 
   stands_listed : (k j : ℕ) → IsNode s j → stands s k j ≡ true → IsNode s k → IsMarked ms k → Memᴰ (production s j) (listing s ms)
   stands_listed k j h e l m =
-      joined_every (of_marked s ms) (length s.nodes) k (production s j) l
+      joined_every (of_marked s ms) 0 (length s.nodes) k (production s j) (omega arith) (omega arith)
       (subst (Memᴰ (production s j)) (sym (class_taken s ms k (λ z. absurd (omega arith))))
-      (joined_every (of_node s k) (length s.nodes) j (production s j) h
+      (joined_every (of_node s k) 0 (length s.nodes) j (production s j) (omega arith) (omega arith)
       (subst (Memᴰ (production s j)) (sym (node_taken s k j e)) (Memᴰ.head refl))))
 
   pub listing_listed : (n : ℕ) → ((j : ℕ) → IsNode s j → IsNode s (class s j)) → Marked s n ms → Listed s n (listing s ms)
@@ -120,8 +121,8 @@ module _ (s : State) (ms : List ℕ) where
             subst (λ (p : Production). Memᴰ p (listing s ms)) t.2
             (stands_listed (class s j) t.0 (omega arith) t.3 (c j h) (M.complete (class s j) r));
         only = λ p m.
-            let t = joined_only (of_marked s ms) (length s.nodes) p m in
-            let F = marked_from t.0 p t.2 in
+            let t = joined_only (of_marked s ms) 0 (length s.nodes) p m in
+            let F = marked_from t.0 p t.3 in
             let k = F.1.of_class in (
               F.1.node,
               F.1.first.here,

@@ -1,40 +1,26 @@
--- Productions written one after another.
-use Rattle.std.proofs.Common.{◌≡◌, ℕ, suc, ◌+◌, ◌≤◌, List, [], ◌∷◌, ◌++◌, map, length, drop, set, sym, refl, ap, ◌∙◌, le_of_suc-le-suc, not-suc-le-zero, arith}
-use Rattle.std.proofs.lemmas.List.{map-set}
-use Rattle.theory.specs.Productions.{Production}
-use Rattle.listing.specs.declared.production.Production as code
-use Rattle.listing.specs.Told.{plain}
-use Rattle.listing.specs.Order.{written}
+-- A list that is written over the start of another.
+use Rattle.std.proofs.Common.{◌≡◌, ℕ, zero, suc, ◌<◌, ◌≤◌, List, [], ◌∷◌, ◌++◌, length, take, drop, set, refl, ap, le_of_suc-le-suc, not-suc-le-zero, arith}
 
-written_more : (out : List Production) (at : ℕ) (ps qs : List Production) → written (written out at ps) (at + length ps) qs ≡ written out at (ps ++ qs)
-written_more out at [] qs = let e : at + 0 ≡ at = omega arith in ap (λ (n : ℕ). written out n qs) e
-written_more out at (p ∷ ps) qs =
-    let e : at + suc (length ps) ≡ suc at + length ps = omega arith in
-    ap (λ (n : ℕ). written (written (set out at p) (suc at) ps) n qs) e ∙ written_more (set out at p) (suc at) ps qs
+module _ {A : Type 0} where
+  -- the next is stored
+  pub stored : (n : ℕ) (ps qs rest : List A) (p : A) → drop n ps ≡ p ∷ rest → n < length qs
+      → set (take n ps ++ drop n qs) n p ≡ take (suc n) ps ++ drop (suc n) qs
+  stored zero [] qs rest p e h = absurd (cc)
+  stored zero (x ∷ ps) [] rest p e h = absurd (not-suc-le-zero h)
+  stored zero (x ∷ ps) (q ∷ qs) rest p e h = let d : p ≡ x = cc in ap (λ (y : A). y ∷ qs) d
+  stored (suc n) [] qs rest p e h = absurd (cc)
+  stored (suc n) (x ∷ ps) [] rest p e h = absurd (not-suc-le-zero h)
+  stored (suc n) (x ∷ ps) (q ∷ qs) rest p e h = ap (λ (l : List A). x ∷ l) (stored n ps qs rest p e (le_of_suc-le-suc h))
 
--- ps were written from `at` on, up to `to`, and now qs too
-pub then_written : (out mid new last : List code.Production) (at to : ℕ) (ps qs rs : List Production) → map plain mid ≡ written (map plain out) at ps
-    → to ≡ at + length ps → new ≡ last → map plain last ≡ written (map plain mid) to qs → rs ≡ ps ++ qs
-    → map plain new ≡ written (map plain out) at rs
-then_written out mid new last at to ps qs rs e i n f g =
-    ap (map plain) n
-    ∙ f
-    ∙ ap (λ (l : List Production). written l to qs) e
-    ∙ ap (λ (k : ℕ). written (written (map plain out) at ps) k qs) i
-    ∙ written_more (map plain out) at ps qs
-    ∙ ap (written (map plain out) at) (sym g)
+  pub place_of_next : (n : ℕ) (ps rest : List A) (p : A) → drop n ps ≡ p ∷ rest → (n < length ps) × (drop (suc n) ps ≡ rest)
+  place_of_next zero [] rest p e = absurd (cc)
+  place_of_next zero (x ∷ ps) rest p e = (omega arith, cc)
+  place_of_next (suc n) [] rest p e = absurd (cc)
+  place_of_next (suc n) (x ∷ ps) rest p e = let t = place_of_next n ps rest p e in (omega (arith, t.0), t.1)
 
--- one production stored
-pub stored : (out : List code.Production) (to : ℕ) (r : code.Production) (p : Production) → plain r ≡ p
-    → map plain (set out to r) ≡ written (map plain out) to (p ∷ [])
-stored out to r p e = map-set plain out to r ∙ ap (set (map plain out) to) e
-
-past : (a : Production) (out : List Production) (at : ℕ) (ps : List Production) → written (a ∷ out) (suc at) ps ≡ a ∷ written out at ps
-past a out at [] = refl
-past a out at (p ∷ ps) = past a (set out at p) (suc at) ps
-
--- from the start on
-pub written_first : (out ps : List Production) → length ps ≤ length out → written out 0 ps ≡ ps ++ drop (length ps) out
-written_first out [] h = refl
-written_first [] (p ∷ ps) h = absurd (not-suc-le-zero h)
-written_first (a ∷ out) (p ∷ ps) h = past p out 0 ps ∙ ap (λ (l : List Production). p ∷ l) (written_first out ps (le_of_suc-le-suc h))
+  -- all are written
+  pub nothing_more : (n : ℕ) (ps : List A) → drop n ps ≡ [] → n ≤ length ps → (n ≡ length ps) × (take n ps ≡ ps)
+  nothing_more zero [] e h = (refl, refl)
+  nothing_more zero (x ∷ ps) e h = absurd (cc)
+  nothing_more (suc n) [] e h = absurd (not-suc-le-zero h)
+  nothing_more (suc n) (x ∷ ps) e h = let t = nothing_more n ps e (le_of_suc-le-suc h) in (ap suc t.0, ap (λ (l : List A). x ∷ l) t.1)

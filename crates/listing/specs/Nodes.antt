@@ -3,13 +3,13 @@
 -- | word           | meaning                                                                                            |
 -- |----------------|----------------------------------------------------------------------------------------------------|
 -- | state_in       | the state that has the rows' nodes and classes, and nothing else: a grammar asks for no more       |
--- | NodeRows       | 1,024 rows at most, each with a node whose parts stand before it and whose class is no higher node |
--- | row_production | a node's production as the rows have it: a missing part is 0, and so is the class of node 0        |
-use Rattle.std.specs.Prelude.{ℕ, ◌<◌, ◌≤◌, false, List, [], map, length}
+-- | part_at        | the part of a node at a place                                                                      |
+-- | class_of_part  | the class of that part, and 0 for a missing one                                                    |
+use Rattle.std.specs.Prelude.{ℕ, false, List, [], map, length, ◌==◌, nat_lt, if◌then◌else◌}
 use Rattle.theory.specs.Books.{State}
 use Rattle.book.specs.declared.row.Row.{Row}
-use Rattle.theory.specs.Productions.{Production}
-use Rattle.book.specs.Rows.{row, class, Tidy}
+use Rattle.book.specs.declared.row.Node.{Node}
+use Rattle.book.specs.Rows.{class}
 use Rattle.book.specs.Layout.{entry_of}
 
 abbrev pub state_in : List Row → State
@@ -24,17 +24,10 @@ state_in xs =
       room = length xs;
     }
 
-pub record NodeRows (xs : List Row) : Type 0 where
-  pub few : length xs ≤ 1024
-  pub tidy : Tidy xs (length xs)
-  pub least : (i : ℕ) → i < length xs → class xs i ≤ i
+-- the left part at place 0, and the right part at any other
+abbrev pub part_at : Node → ℕ → ℕ
+part_at x i = if i == 0 then x.left else x.right
 
-abbrev pub row_production : List Row → ℕ → Production
-row_production xs j =
-    record {
-      of = class xs j;
-      symbol = (row xs j).node.symbol;
-      parts = (row xs j).node.parts;
-      left = class xs (row xs j).node.left;
-      right = class xs (row xs j).node.right;
-    }
+-- a missing part is 0
+abbrev pub class_of_part : List Row → Node → ℕ → ℕ
+class_of_part xs x i = if nat_lt i x.parts then class xs (part_at x i) else 0

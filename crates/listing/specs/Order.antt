@@ -2,7 +2,7 @@
 --
 -- | word            | meaning                                                                                      |
 -- |-----------------|----------------------------------------------------------------------------------------------|
--- | joined          | the lists of the numbers below n, one after another                                          |
+-- | joined          | the lists of n numbers from a on, one after another                                          |
 -- | same_production | whether two productions are the same                                                         |
 -- | unmet           | whether no node below n has the production                                                   |
 -- | stands          | whether node j is of class k, and no lower node has its production                           |
@@ -10,14 +10,14 @@
 -- | of_class        | the productions of a class, by the lowest node that has each                                 |
 -- | of_marked       | the same of a marked class, and none of another                                              |
 -- | listing         | the productions of all marked classes, by class                                              |
--- | written         | an output with productions written from a place on                                           |
-use Rattle.std.specs.Prelude.{ℕ, zero, suc, Bool, true, false, cond, List, [], ◌∷◌, ◌++◌, length, ◌==◌, slice_index, slice_set}
+-- | left_over       | those that are left of one class, and those of more classes                                  |
+use Rattle.std.specs.Prelude.{ℕ, zero, suc, ◌-◌, Bool, true, false, cond, List, [], ◌∷◌, ◌++◌, length, ◌==◌, slice_index}
+use Rattle.std.specs.List.{flat_map, range_with_len}
 use Rattle.theory.specs.Books.{State, class}
 use Rattle.theory.specs.Productions.{Production, production}
 
-abbrev pub joined : {A : Type 0} → (ℕ → List A) → ℕ → List A
-joined f zero = []
-joined f (suc n) = joined f n ++ f n
+abbrev pub joined : {A : Type 0} → (ℕ → List A) → ℕ → ℕ → List A
+joined f a n = flat_map f (range_with_len a n)
 
 abbrev pub same_production : Production → Production → Bool
 same_production p q =
@@ -37,14 +37,14 @@ abbrev pub of_node : State → ℕ → ℕ → List Production
 of_node s k j = cond (stands s k j) (production s j ∷ []) []
 
 abbrev pub of_class : State → ℕ → List Production
-of_class s k = joined (of_node s k) (length s.nodes)
+of_class s k = joined (of_node s k) 0 (length s.nodes)
 
 abbrev pub of_marked : State → List ℕ → ℕ → List Production
 of_marked s ms k = cond (slice_index ms k == 0) [] (of_class s k)
 
 abbrev pub listing : State → List ℕ → List Production
-listing s ms = joined (of_marked s ms) (length s.nodes)
+listing s ms = joined (of_marked s ms) 0 (length s.nodes)
 
-abbrev pub written : List Production → ℕ → List Production → List Production
-written out at [] = out
-written out at (p ∷ ps) = written (slice_set out at p) (suc at) ps
+-- of class k by the nodes from i below j, and of the marked classes from a below b
+abbrev pub left_over : State → List ℕ → ℕ → ℕ → ℕ → ℕ → ℕ → List Production
+left_over s ms k i j a b = joined (of_node s k) i (j - i) ++ joined (of_marked s ms) a (b - a)

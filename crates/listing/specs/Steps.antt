@@ -3,12 +3,12 @@
 --
 -- | word     | meaning                                                                                              |
 -- |----------|------------------------------------------------------------------------------------------------------|
--- | Refusal  | why a node cannot be listed, of so many nodes and with so many marking bytes, if it cannot           |
+-- | Checked  | why a node cannot be listed, of so many nodes and with so many marking bytes, or that it can         |
 -- | Writing  | productions are written from the start of an output, or there is no room for all and it is as before |
 -- | Spells   | some productions, as a grammar, spell exactly the builds that are equal to a node's build            |
-use Rattle.std.specs.Prelude.{◌≡◌, ℕ, ◌<◌, ◌≤◌, ◌⊎◌, ◌↔◌, List, map, length, Some, None, Option}
-use Rattle.text.specs.Causes.{number_of}
-use Rattle.text.specs.declared.cause.Layer.{Layer}
+use Rattle.std.specs.Prelude.{◌≡◌, ℕ, ◌<◌, ◌≤◌, ◌⊎◌, ◌↔◌, List, ◌++◌, map, length, drop, Ok, Err, Result}
+use Rattle.text.specs.declared.cause.BookCause.{BookCause}
+use Rattle.text.specs.declared.cause.BookCause.TheVariants as cause
 use Rattle.theory.specs.Builds.{Build}
 use Rattle.theory.specs.Equality.{Equal}
 use Rattle.theory.specs.Books.{State, build, class, equations_in}
@@ -16,16 +16,14 @@ use Rattle.theory.specs.Productions as theory
 use Rattle.theory.specs.Calls.{Answer, granted, refused}
 use Rattle.listing.specs.declared.production.Production.{Production}
 use Rattle.listing.specs.Told.{plain}
-use Rattle.listing.specs.Order.{written}
 
-abbrev pub Refusal : ℕ → ℕ → ℕ → Option Layer → Type 0
-Refusal nodes node bytes (Some e) =
-    ((nodes ≤ node) × (number_of e ≡ 2)) ⊎ ((node < nodes) × (bytes < nodes) × (number_of e ≡ 17))
-Refusal nodes node bytes None = (node < nodes) × (nodes ≤ bytes)
+abbrev pub Checked : ℕ → ℕ → ℕ → Result (Unit {0}) BookCause → Type 0
+Checked nodes node bytes (Err e) = ((nodes ≤ node) × (e ≡ cause.NoNode)) ⊎ ((node < nodes) × (bytes < nodes) × (e ≡ cause.TooShort))
+Checked nodes node bytes (Ok x) = (node < nodes) × (nodes ≤ bytes)
 
 pub data Writing (ps : List theory.Production) (before : List Production) (answer : Answer ℕ) (after : List Production) : Type 0 where
   too_long : length before < length ps → answer ≡ refused 17 → after ≡ before → Writing ps before answer after
-  all : length ps ≤ length before → answer ≡ granted (length ps) → map plain after ≡ written (map plain before) 0 ps
+  all : length ps ≤ length before → answer ≡ granted (length ps) → map plain after ≡ ps ++ drop (length ps) (map plain before)
       → Writing ps before answer after
 
 abbrev pub Spells : State → ℕ → List theory.Production → Type 0

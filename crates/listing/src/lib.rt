@@ -3,5 +3,7 @@
 
 pub mod list;
 mod mark;
+mod marking;
+mod place;
 pub mod production;
 mod write;

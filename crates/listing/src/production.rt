@@ -1,7 +1,7 @@
 // A production of a book's grammar.
 
-/// A class, a symbol, the number of its parts and their classes; a missing part's class is 0.
-#[derive(Clone, Copy)]
+/// A class, a symbol, the number of its parts and their classes; a missing part's class is 0: so a listing is promised, as numbers.
+#[derive(Clone, Copy, Debug, PartialEq, Eq)]
 pub struct Production {
     pub of: u16,
     pub symbol: u16,

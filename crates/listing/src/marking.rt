@@ -1,0 +1,12 @@
+// A book's nodes with a marking byte for each of their classes: one that is not zero is a mark.
+ghost use Rattle.std.specs.Prelude.{◌≤◌, length};
+
+use book::nodes::Nodes;
+
+/// A book's nodes, and at least as many marking bytes, to be read.
+#[derive(Clone, Copy)]
+pub(crate) struct Marking<'a> {
+    pub(crate) nodes: Nodes<'a>,
+    pub(crate) bytes: &'a [u8],
+    ghost room: { length nodes.rows.now ≤ length bytes.now },
+}
