@@ -5,7 +5,7 @@ use Rattle.theory.specs.Tables.{Table}
 use Rattle.theory.specs.Steps.{Partway}
 use Rattle.book.specs.declared.row.Row.{Row}
 use Rattle.book.specs.declared.row.Node.{Node}
-use Rattle.book.specs.Rows.{row, class, absent, sign, bare, table, shape_of, with_class, with_choice, Tidy, Unchosen}
+use Rattle.book.specs.Rows.{row, class, absent, bare, table, shape_of, with_class, with_choice, Tidy, Unchosen}
 use Rattle.book.specs.Entering.{with_node, placed, Put}
 use Rattle.book.specs.Closing.{Accepted}
 use Rattle.book.proofs.Tables.{table_long}

@@ -8,7 +8,7 @@ use Rattle.theory.specs.Tables.{Table, map_parts, build_at}
 use Rattle.theory.specs.Steps.{Partway}
 use Rattle.theory.proofs.Closing.{closing}
 use Rattle.book.specs.declared.row.Row.{Row}
-use Rattle.book.specs.Rows.{row, class, sign, table, bare, TidyNode, Tidy, Based}
+use Rattle.book.specs.Rows.{class, sign, table, bare, TidyNode, Tidy, Based}
 use Rattle.book.specs.Closing.{Joined, Waits, Owes, Level, Reclassed, Turned, Accepted, weight}
 use Rattle.book.proofs.Found.{passed_by}
 use Rattle.book.proofs.Tables.{table_long, table_at, reclassed_table}

@@ -3,7 +3,7 @@ use Rattle.std.proofs.Common.{◌≡◌, ℕ, zero, suc, ◌+◌, ◌<◌, ◌�
 use Rattle.std.specs.Str.{bytes_eq}
 use Rattle.std.proofs.lemmas.Slice.Eq.{bytes_eq-Decides}
 use native.Mathlib.Decide.{ℕ_discrete}
-use Rattle.std.proofs.lemmas.List.{get_or-set_same, get_or-set_other, get_or_past, ext_get_or}
+use Rattle.std.proofs.lemmas.List.{get_or-set_same, get_or-set_other, ext_get_or}
 use Rattle.theory.specs.Names.{Name, name_byte, IsName}
 use Rattle.theory.specs.Equality.{Equal}
 use Rattle.theory.specs.Tables.{Table, NodePairs, build_at, equations}
@@ -15,7 +15,6 @@ use Rattle.book.specs.Invariant.{Sound, Padded}
 use Rattle.book.specs.Changes.{with_name, Titled}
 use Rattle.book.proofs.Cores.{core, core_tidy, core_based, core_level, core_table, core_class}
 use Rattle.book.proofs.Pairs.{same_pairs}
-use Rattle.book.proofs.Accepting.{either}
 use Rattle.book.proofs.Adding.{last}
 use Rattle.book.proofs.Found.{found_at, found_none}
 

@@ -77,7 +77,7 @@ invariant_of-self c =
     let s = contents c.args.self.now.table in
     record {
       holds = ∣ kept_of _ (sound_entered s (sound_of s c.args.self.now.holds) c.args.symbol.0 c.args.parts c.wanted-node.result (omega arith) (c.if-not-within.ensures.0 refl)
-      c.wanted-node.ensures c.in_default.ensures (omega (arith, c.usable.ensures)) ((s.nodes + 1) - 0) (omega arith) _ c.put.ensures _ c.unprice.ensures) ∣₁;
+          c.wanted-node.ensures c.in_default.ensures (omega (arith, c.usable.ensures)) ((s.nodes + 1) - 0) (omega arith) _ c.put.ensures _ c.unprice.ensures) ∣₁;
     }
 
 pub returns-clause-answer : goal.returns-clause-answer

@@ -37,7 +37,7 @@ invariant_of-self c =
     let s = contents c.args.self.now.table in
     record {
       holds = ∣ kept_of _ (sound_named s (sound_of s c.args.self.now.holds) c.padded-title.result c.args.bytes.now (c.if-not-is_name.ensures.0 refl) c.padded-title.ensures
-      c.in_default.ensures (omega (arith, c.usable.ensures))) ∣₁;
+          c.in_default.ensures (omega (arith, c.usable.ensures))) ∣₁;
     }
 
 pub returns-clause-answer : goal.returns-clause-answer

@@ -1,6 +1,6 @@
 -- A class is unmarked and swept; with none marked nothing waits.
-use Rattle.std.proofs.Common.{ℕ, length, sym, ◌∙◌, subst, arith}
-use Rattle.book.specs.Closing.{Waits, Turned}
+use Rattle.std.proofs.Common.{ℕ, length, sym, ◌∙◌, subst}
+use Rattle.book.specs.Closing.{Waits}
 use Rattle.book.proofs.Owing.{owes_start, level_of}
 use Rattle.book.proofs.Sweeps.{closed_turn, mark_at, no_mark}
 use Rattle.book.proofs.closing.Classes.close.Goals as goal
@@ -19,8 +19,7 @@ loop-d-smaller c =
 pub loop-d-preserved : goal.loop-d-preserved
 loop-d-preserved c =
     let f = mark_at c.loop-d.self.dirty c.in-Some.d c.in-Some.ensures in
-    let new = c.sweep.new.self in
-    (
+    let new = c.sweep.new.self in (
       (closed_turn c.in-Some.d _ c.loop-d.self.rows.now _ _ c.loop-d.self.dirty _ f.0 f.1 c.loop-d.invariant.0 c.sweep.ensures.turned).0,
       subst (λ (k : ℕ). Waits new.rows.now k new.dirty) c.loop-d.invariant.0.only.long c.sweep.ensures.waits,
       c.sweep.ensures.lent ∙ c.loop-d.invariant.2,

@@ -10,8 +10,7 @@ loop-j-preserved c =
     let I = c.loop-j.invariant in
     let m = c.meet.ensures in
     let now = c.loop-j.self in
-    let new = c.meet.new.self in
-    (
+    let new = c.meet.new.self in (
       turned_next _ _ _ _ _ _ I.0 m.turned,
       λ d O. subst (λ (k : ℕ). Owes now.rows.now k now.dirty d c.args.i c.loop-j.j → Owes new.rows.now k new.dirty d c.args.i (c.loop-j.j + 1)) I.0.only.long (m.owes d) (I.1 d O),
       m.lent ∙ I.2,
