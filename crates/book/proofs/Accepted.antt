@@ -1,17 +1,23 @@
 -- An equation more in the rows is an equation more in the state.
-use Rattle.std.proofs.Common.{◌≡◌, ℕ, ◌-◌, ◌<◌, ◌≤◌, min, Bool, cond, [], map, length, take, sym, refl, ap, ◌∙◌, inl, inr, arith, length-set}
+use Rattle.std.proofs.Common.{◌≡◌, ℕ, ◌+◌, ◌-◌, ◌<◌, ◌≤◌, min, Bool, false, cond, List, [], ◌++◌, map, length, take, drop, sym, refl, ap, ◌∙◌, subst, inl, inr, arith, length-set}
 use native.Mathlib.Decide.{ℕ_discrete}
-use Rattle.std.proofs.lemmas.List.{get_or-set_same, get_or-set_other}
+use Rattle.std.proofs.lemmas.List.{get_or-set_same, get_or-set_other, get_or-take, length-take-le}
 use Rattle.theory.specs.Books.{with_equation as equation_more}
+use Rattle.theory.specs.Calls.{Answer, granted, refused, Both, Equating, Equating.full, Equating.accepted}
 use Rattle.theory.proofs.Books.{same_state}
 use Rattle.book.specs.declared.row.Row.{Row}
-use Rattle.book.specs.Rows.{absent, row, class, trimmed, with_class, with_choice, with_equation, stored}
+use Rattle.book.specs.Rows.{absent, row, class, trimmed, with_class, with_choice, with_equation, stored, Tidy, Based, Unchosen}
+use Rattle.book.specs.Closing.{Level, Accepted}
 use Rattle.book.specs.Layout.{Contents, room, entry_of, state_of, Relaid}
-use Rattle.book.specs.Invariant.{Sound}
+use Rattle.book.specs.Invariant.{Sound, Unpriced}
 use Rattle.book.specs.Changes.{Equated}
 use Rattle.book.proofs.Columns.{same_column, more_column}
-use Rattle.book.proofs.Accepting.{either}
-use Rattle.book.proofs.Booked.{laid_of}
+use Rattle.book.proofs.Accepting.{either, accepted_unpriced, reset_of, sound_equated}
+use Rattle.book.proofs.Behind.{row_front, unchosen_behind, accepted_behind}
+use Rattle.book.proofs.Cores.{stored_core, core_tidy, core_based, core_level}
+use Rattle.book.proofs.Front.{tidy_below, based_below, level_below}
+use Rattle.book.proofs.States.{nodes_long, equated_long}
+use Rattle.book.proofs.Booked.{book_of, laid_of}
 
 module _ (s t : Contents) (K : Sound s) (a b : ℕ) (E : Equated s t a b) (space : s.equations < room s) where
   abbrev new_row : Row
@@ -69,3 +75,128 @@ module _ (s t : Contents) (K : Sound s) (a b : ℕ) (E : Equated s t a b) (space
 
   pub equated_laid : Sound t → Relaid s t
   equated_laid L = record { long = long; laid = laid_of t L; past = λ i h. E.rows.past i (omega (arith, K.nodes_fit)) ∙ other i (omega arith) }
+
+-- what is answered where both nodes are known
+module _ (s : Contents) (K : Sound s) (a b : ℕ) (at_a : a < s.nodes) (at_b : b < s.nodes) where
+  both : Both (state_of s) a b
+  both = let z = nodes_long s K in (omega arith, omega arith)
+
+  pub answers_full : room s ≤ s.equations → (x : Answer ℕ) → x ≡ refused 15 → Equating (state_of s) a b x (state_of s)
+  answers_full h x q = let z = equated_long s K in full both (omega arith) q refl
+
+  -- the first m rows are the nodes'
+  module _ (space : s.equations < room s) (m : ℕ) (em : m ≡ s.nodes) where
+    stored_long : length (stored s.rows s.equations a b) ≡ length s.rows
+    stored_long = length-set s.rows s.equations (with_equation (row s.rows s.equations) a b)
+
+    pub fit : s.nodes ≤ length (stored s.rows s.equations a b)
+    fit = omega (arith, stored_long, K.nodes_fit.0)
+
+    tidy : Tidy (stored s.rows s.equations a b) s.nodes
+    tidy = core_tidy s.rows (stored s.rows s.equations a b) s.nodes (stored_core s.rows s.equations a b) K.tidy
+
+    same_front : (i : ℕ) → i < s.nodes → row (take s.nodes (stored s.rows s.equations a b)) i ≡ row (stored s.rows s.equations a b) i
+    same_front i h = get_or-take s.nodes (stored s.rows s.equations a b) i absent h
+
+    pub long_front : length (take m (stored s.rows s.equations a b)) ≡ s.nodes
+    long_front = length-take-le m (stored s.rows s.equations a b) (omega (arith, fit)) ∙ em
+
+    -- as a fact of the first rows
+    at_front : (P : List Row → ℕ → Type 0) → P (take s.nodes (stored s.rows s.equations a b)) s.nodes
+        → P (take m (stored s.rows s.equations a b)) (length (take m (stored s.rows s.equations a b)))
+    at_front P p =
+        subst (P (take m (stored s.rows s.equations a b))) (sym long_front)
+        (subst (λ (k : ℕ). P (take k (stored s.rows s.equations a b)) s.nodes) (sym em) p)
+
+    pub accept_tidy : Tidy (take m (stored s.rows s.equations a b)) (length (take m (stored s.rows s.equations a b)))
+    accept_tidy =
+        at_front Tidy (tidy_below (stored s.rows s.equations a b) (take s.nodes (stored s.rows s.equations a b)) s.nodes same_front tidy)
+
+    pub accept_based : Based (take m (stored s.rows s.equations a b)) (length (take m (stored s.rows s.equations a b)))
+    accept_based =
+        at_front Based
+        (based_below (stored s.rows s.equations a b) (take s.nodes (stored s.rows s.equations a b)) s.nodes same_front
+        (core_based s.rows (stored s.rows s.equations a b) s.nodes (stored_core s.rows s.equations a b) K.based))
+
+    pub accept_level : Level (take m (stored s.rows s.equations a b)) (length (take m (stored s.rows s.equations a b)))
+    accept_level =
+        at_front Level
+        (level_below (stored s.rows s.equations a b) (take s.nodes (stored s.rows s.equations a b)) s.nodes same_front tidy
+        (core_level s.rows (stored s.rows s.equations a b) s.nodes (stored_core s.rows s.equations a b) K.level))
+
+    module _ (ys : List Row) (A : Accepted (take m (stored s.rows s.equations a b)) ys (length (take m (stored s.rows s.equations a b))) a b) where
+      A' : Accepted (take s.nodes (stored s.rows s.equations a b)) ys s.nodes a b
+      A' =
+          subst (λ (k : ℕ). Accepted (take k (stored s.rows s.equations a b)) ys s.nodes a b) em
+          (subst (λ (k : ℕ). Accepted (take m (stored s.rows s.equations a b)) ys k a b) long_front A)
+
+      long_ys : length ys ≡ s.nodes
+      long_ys = A.only.long ∙ long_front
+
+      whole : Accepted (stored s.rows s.equations a b) (ys ++ drop s.nodes (stored s.rows s.equations a b)) s.nodes a b
+      whole = accepted_behind (stored s.rows s.equations a b) ys s.nodes a b fit tidy at_a at_b long_ys A'
+
+      pub accepted_unpriced_front : Unpriced ys (length ys) s.priced
+      accepted_unpriced_front q i h =
+          let z = long_ys in
+          ap (λ (r : Row). r.node.choice) (sym (row_front (stored s.rows s.equations a b) ys s.nodes z i (omega arith)))
+          ∙ accepted_unpriced s.rows (ys ++ drop s.nodes (stored s.rows s.equations a b)) s.nodes s.equations a b s.priced whole K.unpriced q i (omega arith)
+
+      module _ (zs : List Row) (U : Unchosen ys zs (length ys)) where
+        abbrev after : Contents
+        after =
+            record {
+              rows = zs ++ drop m (stored s.rows s.equations a b);
+              names = s.names;
+              nodes = s.nodes;
+              equations = s.equations + 1;
+              priced = false;
+            }
+
+        abbrev after' : Contents
+        after' =
+            record {
+              rows = zs ++ drop s.nodes (stored s.rows s.equations a b);
+              names = s.names;
+              nodes = s.nodes;
+              equations = s.equations + 1;
+              priced = false;
+            }
+
+        same_after : after ≡ after'
+        same_after =
+            ap (λ (k : ℕ). record {
+              rows = zs ++ drop k (stored s.rows s.equations a b);
+              names = s.names;
+              nodes = s.nodes;
+              equations = s.equations + 1;
+              priced = false;
+            }) em
+
+        unchosen : Unchosen (ys ++ drop s.nodes (stored s.rows s.equations a b)) (zs ++ drop s.nodes (stored s.rows s.equations a b)) s.nodes
+        unchosen = unchosen_behind (stored s.rows s.equations a b) ys zs s.nodes long_ys (subst (Unchosen ys zs) long_ys U)
+
+        equated : Equated s after' a b
+        equated =
+            record {
+              rows = reset_of s.rows _ _ s.nodes s.equations a b whole unchosen;
+              names = refl;
+              nodes = refl;
+              equations = refl;
+              priced = refl;
+            }
+
+        sound' : Sound after'
+        sound' = sound_equated s K a b _ _ at_a at_b space whole unchosen
+
+        pub sound_accepted : Sound after
+        sound_accepted = subst Sound (sym same_after) sound'
+
+        pub answers_new : Equating (state_of s) a b (granted s.equations) (state_of after)
+        answers_new =
+            let z = equated_long s K in
+            subst (λ (t : Contents). Equating (state_of s) a b (granted s.equations) (state_of t)) (sym same_after)
+            (accepted both (omega arith) (ap granted (sym z)) _ (equated_state s after' K a b equated space) (book_of after' sound'))
+
+        pub laid_accepted : Relaid s after
+        laid_accepted = subst (Relaid s) (sym same_after) (equated_laid s after' K a b equated space sound')

@@ -15,7 +15,7 @@ use Rattle.book.specs.Closing.{Accepted}
 use Rattle.book.specs.Layout.{Contents, room}
 use Rattle.book.specs.Invariant.{Sound, Padded, Obeys, Follows, Unpriced}
 use Rattle.book.specs.Changes.{Reset}
-use Rattle.book.proofs.Cores.{core, stored_core, core_tidy, core_based, core_level, core_class}
+use Rattle.book.proofs.Cores.{core, stored_core, core_tidy, core_based, core_level, core_table, core_class}
 use Rattle.book.proofs.Sweeps.{tidy_still}
 use Rattle.book.proofs.Merging.{three}
 use Rattle.book.proofs.Tables.{same_table, table_long}
@@ -32,7 +32,7 @@ pub unchosen_already : (xs : List Row) (n : ℕ) → ((i : ℕ) → i < n → (r
 unchosen_already xs n f = record { long = refl; within = λ i h. ap (with_choice (row xs i)) (f i h); past = λ i h. refl }
 
 -- an equation makes no choice
-pub accepted_unpriced : (xs ys : List Row) (n k a b : ℕ) (v : Bool) → Accepted xs ys n k a b → Unpriced xs n v → Unpriced ys n v
+pub accepted_unpriced : (xs ys : List Row) (n k a b : ℕ) (v : Bool) → Accepted (stored xs k a b) ys n a b → Unpriced xs n v → Unpriced ys n v
 accepted_unpriced xs ys n k a b v A U q i h =
     ap (λ (r : Row). r.node.choice) (A.only.within i h) ∙ go (ℕ_discrete i k) (either k (length xs)) ∙ U q i h
   where
@@ -48,7 +48,7 @@ accepted_unpriced xs ys n k a b v A U q i h =
 abbrev still : Row → Row
 still r = with_choice (with_class r 0) 0
 
-pub reset_of : (xs ys zs : List Row) (n k a b : ℕ) → Accepted xs ys n k a b → Unchosen ys zs n → Reset n (stored xs k a b) zs
+pub reset_of : (xs ys zs : List Row) (n k a b : ℕ) → Accepted (stored xs k a b) ys n a b → Unchosen ys zs n → Reset n (stored xs k a b) zs
 reset_of xs ys zs n k a b A U =
     record {
       long = U.long ∙ A.only.long;
@@ -59,7 +59,7 @@ reset_of xs ys zs n k a b A U =
     }
 
 module _ (s : Contents) (K : Sound s) (a b : ℕ) (ys zs : List Row) (at_a : a < s.nodes) (at_b : b < s.nodes) (space : s.equations < room s)
-    (A : Accepted s.rows ys s.nodes s.equations a b) (U : Unchosen ys zs s.nodes) where
+    (A : Accepted (stored s.rows s.equations a b) ys s.nodes a b) (U : Unchosen ys zs s.nodes) where
   reset : Reset s.nodes (stored s.rows s.equations a b) zs
   reset = reset_of s.rows ys zs s.nodes s.equations a b A U
 
@@ -112,11 +112,23 @@ module _ (s : Contents) (K : Sound s) (a b : ℕ) (ys zs : List Row) (at_a : a <
   new : Memᴰ (a, b) (pairs_in zs (s.equations + 1))
   new = subst (λ (p : ℕ × ℕ). Memᴰ p (pairs_in zs (s.equations + 1))) pair_new (pairs_has zs (s.equations + 1) s.equations fit' (omega arith))
 
+  -- to store an equation changes no node
+  stored_table : table bare (stored s.rows s.equations a b) s.nodes ≡ table bare s.rows s.nodes
+  stored_table =
+      core_table s.rows (stored s.rows s.equations a b) s.nodes K.nodes_fit.0
+      (omega (arith, K.nodes_fit.0, length-set s.rows s.equations (with_equation (row s.rows s.equations) a b))) (stored_core s.rows s.equations a b)
+
+  stored_class : class (stored s.rows s.equations a b) ≡ class s.rows
+  stored_class = core_class s.rows (stored s.rows s.equations a b) (stored_core s.rows s.equations a b)
+
   after : Partway (table bare s.rows s.nodes) (class ys) (pairs_in zs (s.equations + 1))
   after =
-      A.sound (pairs_in zs (s.equations + 1)) new
-      (partway_of s.rows s.nodes K.nodes_fit.0 K.tidy K.based (pairs_in zs (s.equations + 1))
-      (λ i j h l e. more_follows (table bare s.rows s.nodes) (pairs_in s.rows s.equations) (pairs_in zs (s.equations + 1)) more (K.follows i j h l e)))
+      let ps = pairs_in zs (s.equations + 1) in
+      subst (λ (t : Table). Partway t (class ys) ps) stored_table
+      (A.sound ps new
+      (subst₂ (λ (t : Table) (f : ℕ → ℕ). Partway t f ps) (sym stored_table) (sym stored_class)
+      (partway_of s.rows s.nodes K.nodes_fit.0 K.tidy K.based ps
+      (λ i j h l e. more_follows (table bare s.rows s.nodes) (pairs_in s.rows s.equations) ps more (K.follows i j h l e)))))
 
   follows : Follows zs s.nodes (s.equations + 1)
   follows =
@@ -141,7 +153,8 @@ module _ (s : Contents) (K : Sound s) (a b : ℕ) (ys zs : List Row) (at_a : a <
             o.0,
             o.1,
             ap (λ (f : ℕ → ℕ). f (row s.rows i).equation.left) same_class
-                ∙ A.coarser (row s.rows i).equation.left (row s.rows i).equation.right o.0 o.1 o.2
+                ∙ A.coarser (row s.rows i).equation.left (row s.rows i).equation.right o.0 o.1
+                (ap (λ (f : ℕ → ℕ). f (row s.rows i).equation.left) stored_class ∙ o.2 ∙ sym (ap (λ (f : ℕ → ℕ). f (row s.rows i).equation.right) stored_class))
                 ∙ sym (ap (λ (f : ℕ → ℕ). f (row s.rows i).equation.right) same_class),
           )
 

@@ -13,7 +13,7 @@ use Rattle.theory.proofs.Tables.{each_map}
 use Rattle.book.specs.declared.row.Row.{Row}
 use Rattle.book.specs.declared.row.Node.{Node}
 use Rattle.book.specs.Rows.{absent, trimmed, row, class, shape, shape_of, sign, bare, table, pairs_in, with_class, with_choice, TidyNode, Tidy, Based, Unchosen}
-use Rattle.book.specs.Closing.{Agree, Level}
+use Rattle.book.specs.Closing.{Level}
 use Rattle.book.specs.Entering.{raw_of, with_node, placed, Put}
 use Rattle.book.specs.Layout.{Contents, room}
 use Rattle.book.specs.Invariant.{Sound, Padded, Distinct, Obeys, Follows}
@@ -39,6 +39,17 @@ module _ (xs : List Row) (n : ℕ) (x : Node) (fit : n < length xs) where
   placed_tidy T t i h = elim (last i n h) [
     | inl l ↦ subst (λ (r : Row). TidyNode i r.node) (sym (old i (omega arith))) (T i l)
     | inr e ↦ subst (λ (k : ℕ). TidyNode k (row (placed xs n x) k).node) (sym e) (subst (λ (r : Row). TidyNode n r.node) (sym new) t)
+  ]
+
+  pub placed_based : Based xs n → x.class ≡ n → Based (placed xs n x) (n + 1)
+  placed_based B e i h = elim (last i n h) [
+    | inl l ↦
+        let b = B i l in
+        let c : (p : ℕ) → p < n → class (placed xs n x) p ≡ class xs p = λ p q. ap (λ (r : Row). r.node.class) (old p (omega arith)) in
+        (omega (arith, b.0, c i l), ap (class (placed xs n x)) (c i l) ∙ c (class xs i) (omega (arith, b.0)) ∙ b.1 ∙ sym (c i l))
+    | inr q ↦
+        let f : class (placed xs n x) i ≡ i = ap (class (placed xs n x)) q ∙ ap (λ (r : Row). r.node.class) new ∙ e ∙ sym q in
+        (omega arith, ap (class (placed xs n x)) f)
   ]
 
   -- what `put` leaves
@@ -105,7 +116,7 @@ module _ (xs : List Row) (n : ℕ) (x : Node) (fit : n < length xs) where
     sign_put T i h = sign_same (placed xs n x) ys i h T (put_shape i) (λ p l. class_old p l ∙ sym (class_placed p l))
 
 module _ (s : Contents) (K : Sound s) (x : Node) (tx : TidyNode s.nodes x) (kx : x.symbol < s.names) (cx : x.class ≡ s.nodes) (ox : x.choice ≡ 0)
-    (fresh : (i : ℕ) → i < s.nodes → Agree (raw_of (row s.rows i).node) (raw_of x) → ⊥) (space : s.nodes < room s)
+    (fresh : (i : ℕ) → i < s.nodes → raw_of (row s.rows i).node ≡ raw_of x → ⊥) (space : s.nodes < room s)
     (ys zs : List Row) (P : Put s.rows ys s.nodes x) (U : Unchosen ys zs (s.nodes + 1)) where
   fit : s.nodes < length s.rows
   fit = omega arith
@@ -130,15 +141,8 @@ module _ (s : Contents) (K : Sound s) (x : Node) (tx : TidyNode s.nodes x) (kx :
   class_new = ap (λ (r : Row). r.node.class) (new s.rows s.nodes x fit) ∙ cx
 
   based_ws : Based ws (s.nodes + 1)
-  based_ws i h = elim (last i s.nodes h) [
-    | inl l ↦
-        let b = K.based i l in
-        let e = class_ws i l in
-        (omega arith, ap (class ws) e ∙ class_ws (class s.rows i) (omega (arith, b.0)) ∙ b.1 ∙ sym e)
-    | inr e ↦
-        let f : class ws i ≡ i = ap (class ws) e ∙ class_new ∙ sym e in
-        (omega arith, ap (class ws) f)
-  ]
+  unfolding ws
+  based_ws = placed_based s.rows s.nodes x fit K.based cx
 
   t₀ : Table
   t₀ = table bare s.rows s.nodes
@@ -334,7 +338,7 @@ module _ (s : Contents) (K : Sound s) (x : Node) (tx : TidyNode s.nodes x) (kx :
   clash : (i : ℕ) → i < s.nodes → shape s.rows i ≡ shape_of bare x → ⊥
   clash i h e =
       let g = to_agree (λ p. p) bare i s.nodes (row s.rows i).node x (K.tidy i h) tx (ap (map_parts (λ p. p)) e) in
-      fresh i h (bare_one (row s.rows i).node.symbol x.symbol g.0, g.1, g.2, g.3)
+      fresh i h (λ k. record { symbol = bare_one (row s.rows i).node.symbol x.symbol g.0 k; parts = g.1 k; left = g.2 k; right = g.3 k })
 
   distinct : Distinct zs (s.nodes + 1)
   distinct i j h l e = elim (last i s.nodes h) [

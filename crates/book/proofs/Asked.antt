@@ -1,12 +1,11 @@
 -- What is asked for when a node is entered.
 use Rattle.std.proofs.Common.{◌≡◌, ℕ, zero, suc, ◌+◌, ◌<◌, ◌≤◌, false, List, length, sym, refl, ap, ◌∙◌, subst, inl, inr, arith}
 use Rattle.book.specs.declared.row.Row.{Row}
-use Rattle.book.specs.declared.row.Signature.{Signature}
 use Rattle.book.specs.declared.row.Node.{Node}
+use Rattle.book.specs.declared.row.Signature.{Signature}
 use Rattle.book.specs.declared.id.Parts.{Parts}
 use Rattle.book.specs.declared.id.Parts.TheVariants.{Zero, One, Two}
 use Rattle.book.specs.Rows.{row, class, with_class, with_choice, TidyNode, Unchosen}
-use Rattle.book.specs.Closing.{Agree}
 use Rattle.book.specs.Entering.{asked, Within, new_node, with_node, raw_of, Put}
 use Rattle.book.specs.Layout.{Contents, entry, entry_of, state_of}
 use Rattle.book.specs.Changes.{Added}
@@ -62,18 +61,15 @@ added_of s symbol parts x ys zs e fit P U =
       priced = refl;
     }
 
-agree_eq : (a b : Signature) → Agree a b → a ≡ b
-agree_eq a b g = λ i. record { symbol = g.0 i; parts = g.1 i; left = g.2 i; right = g.3 i }
-
 pub new_entry : (s c : ℕ) (parts : Parts) → entry_of (new_node s parts c) ≡ asked s parts
 new_entry s c Zero = refl
 new_entry s c (One p) = refl
 new_entry s c (Two p q) = refl
 
 -- a row's node that says what is asked for is what is asked for
-pub found_entry : (x y : Node) (n s : ℕ) (parts : Parts) → y ≡ new_node s parts n → Agree (raw_of x) (raw_of y) → entry_of x ≡ asked s parts
+pub found_entry : (x y : Node) (n s : ℕ) (parts : Parts) → y ≡ new_node s parts n → raw_of x ≡ raw_of y → entry_of x ≡ asked s parts
 found_entry x y n s parts e g =
-    ap (λ (k : Signature). entry k.symbol k.parts k.left k.right) (agree_eq (raw_of x) (raw_of y) g)
+    ap (λ (k : Signature). entry k.symbol k.parts k.left k.right) g
     ∙ ap entry_of e
     ∙ new_entry s n parts
 
@@ -81,21 +77,21 @@ clash : {A : Type 0} → ◌≡◌ {A = ℕ} 0 1 → A
 clash e = absurd (omega arith)
 
 says : (x p l r n s : ℕ) (parts : Parts) → p ≤ 2 → (p < 1 → l ≡ 0) → (p < 2 → r ≡ 0) → entry x p l r ≡ asked s parts
-    → Agree (record { symbol = x; parts = p; left = l; right = r }) (raw_of (new_node s parts n))
-says x zero l r n s Zero a b c e = (cc, refl, b (omega arith), c (omega arith))
+    → record { symbol = x; parts = p; left = l; right = r } ≡ raw_of (new_node s parts n)
+says x zero l r n s Zero a b c e = let f : l ≡ 0 = b (omega arith) in let g : r ≡ 0 = c (omega arith) in cc
 says x zero l r n s (One p) a b c e = clash (cc)
 says x zero l r n s (Two p q) a b c e = clash (cc)
 says x (suc zero) l r n s Zero a b c e = clash (cc)
-says x (suc zero) l r n s (One p) a b c e = (cc, refl, cc, c (omega arith))
+says x (suc zero) l r n s (One p) a b c e = let g : r ≡ 0 = c (omega arith) in cc
 says x (suc zero) l r n s (Two p q) a b c e = clash (cc)
 says x (suc (suc k)) l r n s Zero a b c e = clash (cc)
 says x (suc (suc k)) l r n s (One p) a b c e = clash (cc)
-says x (suc (suc k)) l r n s (Two p q) a b c e = (cc, omega arith, cc, cc)
+says x (suc (suc k)) l r n s (Two p q) a b c e = let f : suc (suc k) ≡ 2 = omega arith in cc
 
 -- and what is asked for says that
-pub entry_found : (x y : Node) (i n s : ℕ) (parts : Parts) → y ≡ new_node s parts n → TidyNode i x → entry_of x ≡ asked s parts → Agree (raw_of x) (raw_of y)
+pub entry_found : (x y : Node) (i n s : ℕ) (parts : Parts) → y ≡ new_node s parts n → TidyNode i x → entry_of x ≡ asked s parts → raw_of x ≡ raw_of y
 entry_found x y i n s parts e T q =
-    subst (λ (z : Node). Agree (raw_of x) (raw_of z)) (sym e)
+    subst (λ (z : Node). raw_of x ≡ raw_of z) (sym e)
     (says x.symbol x.parts x.left x.right n s parts T.0 T.3 T.4 q)
 
 pub asked_symbol : (s : ℕ) (parts : Parts) → symbol (asked s parts) ≡ s

@@ -7,15 +7,20 @@ use Rattle.theory.specs.Builds.{Build}
 use Rattle.theory.specs.Equality.{Equal, same}
 use Rattle.theory.specs.Tables.{Shape, atom, unary, binary, Closed, shape_at, map_parts, equations}
 use Rattle.theory.specs.Books.{Parts, symbol, Book, Lowest, table as table_of, build, name_at, node_at, class as class_at}
+use Rattle.theory.specs.Calls.{Answer, refused}
 use Rattle.theory.proofs.Books.{table_length}
 use Rattle.theory.proofs.Grammar.{completeness}
+use Rattle.text.specs.Causes.{number_of}
+use Rattle.text.specs.declared.cause.Layer.{Layer}
 use Rattle.book.specs.declared.row.Row.{Row}
 use Rattle.book.specs.Rows.{row, class, name_of, trimmed}
 use Rattle.book.specs.Layout.{Contents, room, entry, entry_of, state_of, laid_name, laid_node, laid_equation, laid_row, Laid, Relaid}
 use Rattle.book.specs.Invariant.{Sound, Padded}
-use Rattle.book.specs.Held.{Kept}
+use Rattle.book.specs.declared.table.Table.{Table}
+use Rattle.book.specs.Held.{Kept, Holds, contents}
 use Rattle.book.proofs.Accepting.{either}
 use Rattle.book.proofs.Columns.{column_long, column_at, column_past}
+use Rattle.book.proofs.Whole.{sound_of}
 use Rattle.book.proofs.States.{entry_symbol, entry_lower, names_long, nodes_long, classes_long, equated_long, name_is, node_is, class_is, closed_state}
 
 id_map : (x : Shape) → map_parts (λ p. p) x ≡ x
@@ -196,3 +201,10 @@ kept_of s K = record { book = book_of s K; laid = laid_of s K; sound = K }
 -- rows that were left alone are laid as before
 pub laid_still : (s : Contents) → Sound s → Relaid s s
 laid_still s K = record { long = refl; laid = laid_of s K; past = λ i h. refl }
+
+pub laid_left : (t : Table) → Holds t → Relaid (contents t) (contents t)
+laid_left t h = laid_still (contents t) (sound_of (contents t) h)
+
+-- a refusal is answered by its number
+pub told : {A : Type 0} {l m : Layer} → l ≡ m → ◌≡◌ {A = Answer A} (refused (number_of l)) (refused (number_of m))
+told e = ap (λ (l : Layer). refused (number_of l)) e

@@ -1,5 +1,6 @@
 -- The lemmas of this crate, by subject.
 pub mod Columns
+pub mod Found
 pub mod Relabel
 pub mod Signs
 pub mod Tables
@@ -7,6 +8,7 @@ pub mod Merging
 pub mod Owing
 pub mod Cores
 pub mod Sweeps
+pub mod Behind
 pub mod Pairs
 pub mod Accepting
 pub mod Adding

@@ -160,6 +160,10 @@ turned_more n xs ys zs ds es fs h A B =
           subst (λ (t : Table). Partway t (class zs) ps) e (B.sound ps (subst (λ (t : Table). Partway t (class ys) ps) (sym e) (A.sound ps P)));
     }
 
+pub turned_next : (xs ys zs : List Row) (ds es fs : List Bool) → Turned (length xs) xs ys ds es → Turned (length ys) ys zs es fs → Turned (length xs) xs zs ds fs
+turned_next xs ys zs ds es fs A B =
+    turned_more (length xs) xs ys zs ds es fs (omega arith) A (subst (λ (k : ℕ). Turned k ys zs es fs) A.only.long B)
+
 -- what `join` does
 pub joined_step : (xs ys : List Row) (ds es : List Bool) (n a b : ℕ) → n ≤ length xs → Tidy xs n → Based xs n → a < n → b < n
     → Joined xs ys ds es n a b → Step n xs ys ds es a b

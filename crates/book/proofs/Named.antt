@@ -1,16 +1,19 @@
 -- A name more in the rows is a name more in the state.
-use Rattle.std.proofs.Common.{◌≡◌, ℕ, ◌-◌, ◌<◌, ◌≤◌, min, Bool, cond, List, [], map, length, take, sym, refl, ap, ◌∙◌, ap₂, arith}
+use Rattle.std.proofs.Common.{◌≡◌, ℕ, ◌-◌, ◌<◌, ◌≤◌, min, Bool, cond, List, [], map, length, take, sym, refl, ap, ◌∙◌, ap₂, arith, ◌+◌, set, Some, None, position}
 use native.Mathlib.Decide.{ℕ_discrete}
+use Rattle.std.specs.Str.{bytes_eq}
 use Rattle.theory.specs.Names.{Name, IsName}
+use Rattle.theory.specs.Calls.{Answer, granted, refused, UnknownName, Naming, Naming.known, Naming.full, Naming.new}
 use Rattle.theory.specs.Books.{with_name as name_more}
 use Rattle.theory.proofs.Books.{same_state}
 use Rattle.book.specs.declared.row.Row.{Row}
 use Rattle.book.specs.Rows.{row, trimmed}
 use Rattle.book.specs.Layout.{Contents, room, entry_of, state_of, Relaid}
-use Rattle.book.specs.Invariant.{Sound}
+use Rattle.book.specs.Invariant.{Sound, Padded}
 use Rattle.book.specs.Changes.{with_name, Titled}
 use Rattle.book.proofs.Columns.{same_column, more_column}
-use Rattle.book.proofs.Titles.{padded_name}
+use Rattle.book.proofs.States.{names_long, name_is}
+use Rattle.book.proofs.Titles.{padded_name, known_title, no_title, titled_of, sound_titled}
 use Rattle.book.proofs.Booked.{laid_of}
 
 module _ (s t : Contents) (K : Sound s) (bs : Name) (G : IsName bs) (T : Titled s t bs) (space : s.names < room s) where
@@ -49,3 +52,44 @@ module _ (s t : Contents) (K : Sound s) (bs : Name) (G : IsName bs) (T : Titled 
 
   pub titled_laid : Sound t → Relaid s t
   titled_laid L = record { long = T.long; laid = laid_of t L; past = λ i h. T.other i (omega arith) }
+
+-- what a name that is well formed is answered
+module _ (s : Contents) (K : Sound s) (title : List ℕ) (bs : Name) (G : IsName bs) (P : Padded title bs) where
+  pub answers_known : (i : ℕ) → Some i ≡ position (λ (r : Row). bytes_eq r.name title) (take s.names s.rows) → Naming (state_of s) bs (granted i) (state_of s)
+  answers_known i e =
+      let f = known_title s K title bs G P i e in
+      known G i (omega (arith, names_long s K, f.0)) (name_is s K i f.0 ∙ f.1) refl refl
+
+  module _ (none : None ≡ position (λ (r : Row). bytes_eq r.name title) (take s.names s.rows)) where
+    unknown : UnknownName (state_of s) bs
+    unknown k h e =
+        let z = names_long s K in
+        no_title s K title bs G P none k (omega arith) (sym (name_is s K k (omega arith)) ∙ e)
+
+    pub answers_full : room s ≤ s.names → (a : Answer ℕ) → a ≡ refused 13 → Naming (state_of s) bs a (state_of s)
+    answers_full h a e = full G unknown (omega (arith, names_long s K)) e refl
+
+    module _ (space : s.names < room s) where
+      abbrev after : Contents
+      after =
+          record {
+            rows = set s.rows s.names (with_name (row s.rows s.names) title);
+            names = s.names + 1;
+            nodes = s.nodes;
+            equations = s.equations;
+            priced = s.priced;
+          }
+
+      pub sound_named : Sound after
+      sound_named = sound_titled s K title bs G P (no_title s K title bs G P none) space
+
+      titled : Titled s after bs
+      titled = titled_of s title bs P (omega arith)
+
+      pub answers_new : Naming (state_of s) bs (granted s.names) (state_of after)
+      answers_new =
+          let z = names_long s K in
+          new G unknown (omega arith) (ap granted (sym z)) (titled_state s after K bs G titled space)
+
+      pub laid_named : Relaid s after
+      laid_named = titled_laid s after K bs G titled space sound_named

@@ -1,12 +1,15 @@
 -- Two nodes have one sign exactly when their signatures agree.
-use Rattle.std.proofs.Common.{◌≡◌, ℕ, zero, suc, ◌<◌, ◌≤◌, Bool, List, Decides, sym, refl, ap, ◌∙◌, ap₂, subst₂, arith}
+use Rattle.std.proofs.Common.{◌≡◌, ℕ, zero, suc, ◌-◌, ◌<◌, ◌≤◌, Bool, true, false, List, length, Some, None, Option, MatchOption, Decides, sym, refl, ap, ◌∙◌, ap₂, subst, arith}
+use Rattle.std.proofs.lemmas.Bool.Decides.{nat_tests}
 use Rattle.theory.specs.Names.{Name}
 use Rattle.theory.specs.Tables.{atom, unary, map_parts}
 use Rattle.book.specs.declared.row.Row.{Row}
 use Rattle.book.specs.declared.row.Signature.{Signature}
 use Rattle.book.specs.declared.row.Node.{Node}
-use Rattle.book.specs.Rows.{shaped, shape_of, bare, class, row, sign, TidyNode}
-use Rattle.book.specs.Closing.{key, Agree}
+use Rattle.book.specs.Rows.{shaped, shape_of, bare, class, row, sign, TidyNode, Tidy}
+use Rattle.book.specs.Closing.{key}
+use Rattle.book.specs.Entering.{same_signature, Meets}
+use mathlib.Core.Bool.{false≢true}
 
 module _ (cl : ℕ → ℕ) where
   same_parts : (s t p l m r q : ℕ) → s ≡ t → cl l ≡ cl m → cl r ≡ cl q → map_parts cl (shaped bare s p l r) ≡ map_parts cl (shaped bare t p m q)
@@ -48,11 +51,45 @@ module _ (cl : ℕ → ℕ) where
 pub bare_one : (s t : ℕ) → bare s ≡ bare t → s ≡ t
 bare_one s t e = cc
 
-pub alike_is : (rows : List Row) (i j : ℕ) (a b : Signature) (r : Bool) → TidyNode i (row rows i).node → TidyNode j (row rows j).node
-    → a ≡ key rows i → b ≡ key rows j → Decides r (Agree a b) → Decides r (sign rows i ≡ sign rows j)
-alike_is rows i j a b r x y e f D =
-    let G = subst₂ (λ (a b : Signature). Decides r (Agree a b)) e f D in (
-      λ t. let g = G.0 t in of_agree (class rows) (row rows i).node (row rows j).node g.0 g.1 g.2 g.3,
-      λ q. let g = to_agree (class rows) bare i j (row rows i).node (row rows j).node x y q in
-          G.1 (bare_one (row rows i).node.symbol (row rows j).node.symbol g.0, g.1, g.2, g.3),
-    )
+-- `==` tells whether two say the same
+pub same_signature_true : (a b : Signature) → same_signature a b ≡ true → a ≡ b
+same_signature_true a b e =
+    let s : a.symbol ≡ b.symbol = grind (arith, nat_tests) in
+    let p : a.parts ≡ b.parts = grind (arith, nat_tests) in
+    let l : a.left ≡ b.left = grind (arith, nat_tests) in
+    let r : a.right ≡ b.right = grind (arith, nat_tests) in
+    λ k. record { symbol = s k; parts = p k; left = l k; right = r k }
+
+pub same_signature_same : (a b : Signature) → a ≡ b → same_signature a b ≡ true
+same_signature_same a b e = subst (λ (k : Signature). same_signature a k ≡ true) e (grind (arith, nat_tests))
+
+pub alike_is : (rows : List Row) (i j : ℕ) → TidyNode i (row rows i).node → TidyNode j (row rows j).node
+    → Decides (same_signature (key rows i) (key rows j)) (sign rows i ≡ sign rows j)
+alike_is rows i j x y = (
+  λ t.
+      let e = same_signature_true (key rows i) (key rows j) t in
+      of_agree (class rows) (row rows i).node (row rows j).node (ap (λ (k : Signature). k.symbol) e) (ap (λ (k : Signature). k.parts) e)
+      (ap (λ (k : Signature). k.left) e) (ap (λ (k : Signature). k.right) e),
+  λ q.
+      let g = to_agree (class rows) bare i j (row rows i).node (row rows j).node x y q in
+      same_signature_same (key rows i) (key rows j)
+      (λ k. record { symbol = bare_one (row rows i).node.symbol (row rows j).node.symbol g.0 k; parts = g.1 k; left = g.2 k; right = g.3 k }),
+)
+
+-- what `alike` tells, of rows that are those lent
+pub alike_told : (rows ns : List Row) (i j : ℕ) (b : Bool) → ns ≡ rows → Tidy rows (length rows) → i < length rows → j < length rows
+    → b ≡ same_signature (key ns i) (key ns j) → Decides b (sign rows i ≡ sign rows j)
+alike_told rows ns i j b e T h l q =
+    subst (λ (v : Bool). Decides v (sign rows i ≡ sign rows j)) (sym (q ∙ ap (λ (rs : List Row). same_signature (key rs i) (key rs j)) e))
+    (alike_is rows i j (T i h) (T j l))
+
+-- what the search for a congruent node finds
+pub meets_of : (rows : List Row) (r : Option ℕ) → Tidy rows (length rows) → 0 < length rows
+    → MatchOption r ((k : ℕ) → 0 ≤ k → k < length rows - 1 → same_signature (key rows k) (key rows (length rows - 1)) ≡ false)
+    (λ i. (0 ≤ i) × (i < length rows - 1) × (same_signature (key rows i) (key rows (length rows - 1)) ≡ true)
+    × ((k : ℕ) → 0 ≤ k → k < i → same_signature (key rows k) (key rows (length rows - 1)) ≡ false))
+    → Meets rows (length rows - 1) r
+meets_of rows None T h f = λ i l e.
+    false≢true (sym (f i (omega arith) l) ∙ (alike_is rows i (length rows - 1) (T i (omega arith)) (T (length rows - 1) (omega arith))).1 e)
+meets_of rows (Some i) T h f =
+    (f.1, (alike_is rows i (length rows - 1) (T i (omega (arith, f.1))) (T (length rows - 1) (omega arith))).0 f.2)

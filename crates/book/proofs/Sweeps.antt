@@ -1,18 +1,19 @@
 -- The steps of the loops that close the classes.
-use Rattle.std.proofs.Common.{◌≡◌, ℕ, ◌+◌, ◌<◌, ◌≤◌, Bool, true, false, ◌⊎◌, List, length, get_or, set, sym, refl, ap, ◌∙◌, subst, subst₂, inl, inr, arith, length-set}
+use Rattle.std.proofs.Common.{◌≡◌, ℕ, ◌+◌, ◌<◌, ◌≤◌, Bool, true, false, ◌⊎◌, List, length, get_or, set, Some, None, position, sym, refl, ap, ◌∙◌, subst, subst₂, inl, inr, arith, length-set}
 use mathlib.Core.List.Memᴰ
 use Rattle.std.proofs.lemmas.List.{get_or_past}
+use Rattle.std.proofs.lemmas.List.Quantifiers.{position-Some}
 use Rattle.theory.specs.Equality.{given}
 use Rattle.theory.specs.Tables.{Table, map_parts, build_at}
 use Rattle.theory.specs.Steps.{Partway}
 use Rattle.theory.proofs.Closing.{closing}
 use Rattle.book.specs.declared.row.Row.{Row}
-use Rattle.book.specs.Rows.{row, class, sign, table, bare, TidyNode, Tidy, Based, with_equation, stored}
+use Rattle.book.specs.Rows.{class, sign, table, bare, TidyNode, Tidy, Based}
 use Rattle.book.specs.Closing.{Joined, Waits, Owes, Level, Reclassed, Turned, Accepted, weight}
+use Rattle.book.proofs.Found.{passed_by}
 use Rattle.book.proofs.Tables.{table_long, table_at, reclassed_table}
 use Rattle.book.proofs.Merging.{Implied, Step, three, joined_step, step_turned, turned_more, reclassed_more, marks_less}
 use Rattle.book.proofs.Owing.{owes_merge, owes_next, owes_none, owes_all}
-use Rattle.book.proofs.Cores.{core, stored_core, core_tidy, core_based, core_level, core_table, core_class}
 
 pub tidy_still : (n : ℕ) (xs ys : List Row) → Reclassed n xs ys → Tidy xs n → Tidy ys n
 tidy_still n xs ys R T i h = subst (λ (r : Row). TidyNode i r.node) (sym (R.within i h)) (T i h)
@@ -47,19 +48,24 @@ module _ (xs ys : List Row) (ds es : List Bool) (n a b : ℕ) (fit : n ≤ lengt
         λ d O. owes_next ys n es d a b (owes_joined S d a b O) (λ q. S.joins),
       )
 
--- none is marked
-pub no_mark : (ds : List Bool) → ((k : ℕ) → k < length ds → get_or ds k false ≡ false) → (k : ℕ) → get_or ds k false ≡ false
-no_mark ds f k = elim (three k (length ds)) [
-  | inl e ↦ get_or_past ds k false (omega arith)
-  | inr o ↦ elim o [ inl e ↦ f k e | inr e ↦ get_or_past ds k false (omega arith) ]
+-- what the search for a mark finds
+pub mark_at : (ds : List Bool) (d : ℕ) → Some d ≡ position (λ (b : Bool). b) ds → (d < length ds) × (get_or ds d false ≡ true)
+mark_at ds d e = let f = position-Some (λ (b : Bool). b) ds d false (sym e) in (f.0, f.1)
+
+pub no_mark : (ds : List Bool) → None ≡ position (λ (b : Bool). b) ds → (k : ℕ) → get_or ds k false ≡ false
+no_mark ds e k = elim (three k (length ds)) [
+  | inl q ↦ get_or_past ds k false (omega arith)
+  | inr o ↦ elim o [ inl q ↦ passed_by (λ (b : Bool). b) ds e k false q | inr q ↦ get_or_past ds k false (omega arith) ]
 ]
 
 -- one turn of `close`: a mark goes, and then the nodes above it are compared
-pub closed_turn : (n d : ℕ) (xs ys zs : List Row) (cs ds es : List Bool) → n ≤ length xs → d < length ds → get_or ds d false ≡ true
-    → Turned n xs ys cs ds → Turned n ys zs (set ds d false) es → Turned n xs zs cs es × (weight n zs es < weight n ys ds)
-closed_turn n d xs ys zs cs ds es fit h m A B =
+pub closed_turn : (d : ℕ) (xs ys zs : List Row) (cs ds es : List Bool) → d < length ds → get_or ds d false ≡ true
+    → Turned (length xs) xs ys cs ds → Turned (length ys) ys zs (set ds d false) es
+    → Turned (length xs) xs zs cs es × (weight (length xs) zs es < weight (length xs) ys ds)
+closed_turn d xs ys zs cs ds es h m A B' =
     let k = marks_less ds d m in
-    let C : Turned n ys zs ds es = record {
+    let B = subst (λ (n : ℕ). Turned n ys zs (set ds d false) es) A.only.long B' in
+    let C : Turned (length xs) ys zs ds es = record {
       only = B.only;
       based = B.based;
       long = B.long ∙ length-set ds d false;
@@ -67,7 +73,7 @@ closed_turn n d xs ys zs cs ds es fit h m A B =
       lighter = omega (arith, B.lighter);
       sound = B.sound;
     } in
-    (turned_more n xs ys zs cs ds es fit A C, omega (arith, B.lighter))
+    (turned_more (length xs) xs ys zs cs ds es (omega arith) A C, omega (arith, B.lighter))
 
 -- what a merge leaves to compare, of classes that were closed
 pub joined_waits : (xs ys : List Row) (ds es : List Bool) (n a b : ℕ) → n ≤ length xs → n ≤ length ds → Tidy xs n → Based xs n → a < n → b < n
@@ -77,63 +83,33 @@ joined_waits xs ys ds es n a b fit room tidy base h l J L =
     (owes_joined xs ys ds es n a b fit room tidy base h l J (joined_step xs ys ds es n a b fit tidy base h l J) 0 n 0
     (owes_all xs n ds 0 (λ i j k m e c. L i j k m e) n 0))
 
-pub accepted_of : (xs vs ys zs : List Row) (ds es fs : List Bool) (n k a b : ℕ) → n ≤ length xs → Tidy xs n → Based xs n → a < n → b < n
-    → vs ≡ stored xs k a b → Joined vs ys ds es n a b → Turned n ys zs es fs → Level zs n → Accepted xs zs n k a b
-accepted_of xs vs ys zs ds es fs n k a b fit tidy base h l q J T L =
-    let c = stored_core xs k a b in
-    let r : (i : ℕ) → core (row vs i) ≡ core (row xs i) = subst (λ (us : List Row). (i : ℕ) → core (row us i) ≡ core (row xs i)) (sym q) c in
-    let fit' : n ≤ length vs = omega (arith, ap length q, length-set xs k (with_equation (row xs k) a b)) in
-    let S = joined_step vs ys ds es n a b fit' (core_tidy xs vs n r tidy) (core_based xs vs n r base) h l J in
-    let t : table bare vs n ≡ table bare xs n = core_table xs vs n fit fit' r in
-    let t' : table bare ys n ≡ table bare vs n = reclassed_table bare n vs ys fit' S.only in
-    let u : class vs ≡ class xs = core_class xs vs r in
+pub accepted_of : (xs ys zs : List Row) (ds es fs : List Bool) (n a b : ℕ) → n ≤ length xs → Tidy xs n → Based xs n → a < n → b < n
+    → Joined xs ys ds es n a b → Turned n ys zs es fs → Level zs n → Accepted xs zs n a b
+accepted_of xs ys zs ds es fs n a b fit tidy base h l J T L =
+    let S = joined_step xs ys ds es n a b fit tidy base h l J in
+    let t : table bare ys n ≡ table bare xs n = reclassed_table bare n xs ys fit S.only in
     record {
-      only = subst (λ (us : List Row). Reclassed n us zs) q (reclassed_more n vs ys zs S.only T.only);
+      only = reclassed_more n xs ys zs S.only T.only;
       based = T.based;
       level = L;
-      coarser = λ i j k m e. T.coarser i j k m (S.coarser i j k m (ap (λ (f : ℕ → ℕ). f i) u ∙ e ∙ sym (ap (λ (f : ℕ → ℕ). f j) u)));
+      coarser = λ i j k m e. T.coarser i j k m (S.coarser i j k m e);
       joins = T.coarser a b h l S.joins;
       sound = λ ps m P.
-          let P' : Partway (table bare vs n) (class vs) ps = subst₂ (λ (s : Table) (f : ℕ → ℕ). Partway s f ps) (sym t) (sym u) P in
-          let Q = S.sound ps P' (given (Memᴰ.map (λ (e : ℕ × ℕ). (build_at (table bare vs n) e.0, build_at (table bare vs n) e.1)) m)) in
-          let Q' = T.sound ps (subst (λ (s : Table). Partway s (class ys) ps) (sym t') Q) in
-          subst (λ (s : Table). Partway s (class zs) ps) (t' ∙ t) Q';
+          let Q = S.sound ps P (given (Memᴰ.map (λ (e : ℕ × ℕ). (build_at (table bare xs n) e.0, build_at (table bare xs n) e.1)) m)) in
+          subst (λ (s : Table). Partway s (class zs) ps) t (T.sound ps (subst (λ (s : Table). Partway s (class ys) ps) (sym t) Q));
     }
+
+pub accepted_as : (xs ys zs : List Row) (n a b : ℕ) → ys ≡ zs → Accepted xs zs n a b → Accepted xs ys n a b
+accepted_as xs ys zs n a b e A = subst (λ (us : List Row). Accepted xs us n a b) (sym e) A
 
 -- an equation that the classes hold already
-pub held_already : (xs : List Row) (n k a b : ℕ) → Based xs n → Level xs n → class (stored xs k a b) a ≡ class (stored xs k a b) b → Accepted xs (stored xs k a b) n k a b
-held_already xs n k a b base L e =
-    let c = stored_core xs k a b in
-    let u : class (stored xs k a b) ≡ class xs = core_class xs (stored xs k a b) c in
+pub held_already : (xs : List Row) (n a b : ℕ) → Based xs n → Level xs n → class xs a ≡ class xs b → Accepted xs xs n a b
+held_already xs n a b base L e =
     record {
       only = record { long = refl; within = λ i h. refl; past = λ i h. refl };
-      based = core_based xs (stored xs k a b) n c base;
-      level = core_level xs (stored xs k a b) n c L;
-      coarser = λ i j h l q. ap (λ (f : ℕ → ℕ). f i) u ∙ q ∙ sym (ap (λ (f : ℕ → ℕ). f j) u);
+      based = base;
+      level = L;
+      coarser = λ i j h l q. q;
       joins = e;
-      sound = λ ps m P. subst (λ (f : ℕ → ℕ). Partway (table bare xs n) f ps) (sym u) P;
-    }
-
-pub record Midway (ys : List Row) (es : List Bool) (n : ℕ) : Type 0 where
-  pub fits : n ≤ length ys
-  pub room : n ≤ length es
-  pub tidy : Tidy ys n
-  pub based : Based ys n
-  pub waits : Waits ys n es
-
-pub midway : (xs ys : List Row) (ds es : List Bool) (n k a b : ℕ) → n ≤ length xs → n ≤ length ds → Tidy xs n → Based xs n → Level xs n → a < n → b < n
-    → Joined (stored xs k a b) ys ds es n a b → Midway ys es n
-midway xs ys ds es n k a b fit room tidy base L h l J =
-    let vs = stored xs k a b in
-    let c = stored_core xs k a b in
-    let fit' : n ≤ length vs = omega (arith, length-set xs k (with_equation (row xs k) a b)) in
-    let t = core_tidy xs vs n c tidy in
-    let B = core_based xs vs n c base in
-    let S = joined_step vs ys ds es n a b fit' t B h l J in
-    record {
-      fits = omega (arith, S.only.long);
-      room = omega (arith, S.long);
-      tidy = tidy_still n vs ys S.only t;
-      based = S.based;
-      waits = joined_waits vs ys ds es n a b fit' room t B h l J (core_level xs vs n c L);
+      sound = λ ps m P. P;
     }

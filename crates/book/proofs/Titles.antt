@@ -1,7 +1,9 @@
 -- Names of symbols: how they are padded and found, and that a book stays a book when one is added.
-use Rattle.std.proofs.Common.{◌≡◌, ℕ, zero, suc, ◌+◌, ◌<◌, ◌≤◌, true, false, ◌≢◌, List, [], ◌∷◌, length, get_or, set, sym, refl, ap, ◌∙◌, subst, ap₂, subst₂, inl, inr, le_of_suc-le-suc, not-suc-le-zero, arith, length-set}
+use Rattle.std.proofs.Common.{◌≡◌, ℕ, zero, suc, ◌+◌, ◌<◌, ◌≤◌, true, false, ◌≢◌, List, [], ◌∷◌, length, get_or, set, take, Some, None, position, sym, refl, ap, ◌∙◌, subst, ap₂, subst₂, inl, inr, le_of_suc-le-suc, not-suc-le-zero, arith, length-set}
+use Rattle.std.specs.Str.{bytes_eq}
+use Rattle.std.proofs.lemmas.Slice.Eq.{bytes_eq-Decides}
 use native.Mathlib.Decide.{ℕ_discrete}
-use Rattle.std.proofs.lemmas.List.{get_or-set_same, get_or-set_other, get_or_past}
+use Rattle.std.proofs.lemmas.List.{get_or-set_same, get_or-set_other, ext_get_or}
 use Rattle.theory.specs.Names.{Name, name_byte, IsName}
 use Rattle.theory.specs.Equality.{Equal}
 use Rattle.theory.specs.Tables.{Table, NodePairs, build_at, equations}
@@ -10,19 +12,14 @@ use Rattle.book.specs.declared.row.Node.{Node}
 use Rattle.book.specs.Rows.{absent, trimmed, name_of, row, class, bare, shape_of}
 use Rattle.book.specs.Layout.{Contents, room}
 use Rattle.book.specs.Invariant.{Sound, Padded}
-use Rattle.book.specs.Names.{Twelve}
 use Rattle.book.specs.Changes.{with_name, Titled}
 use Rattle.book.proofs.Cores.{core, core_tidy, core_based, core_level, core_table, core_class}
 use Rattle.book.proofs.Pairs.{same_pairs}
-use Rattle.book.proofs.Accepting.{either}
 use Rattle.book.proofs.Adding.{last}
+use Rattle.book.proofs.Found.{found_at, found_none}
 
 pub not_both : false ≡ true → ⊥
 not_both e = let z : ◌≡◌ {A = ℕ} 0 1 = cc in omega arith
-
-pub padded_end : (out bs : List ℕ) (i : ℕ) → length bs ≤ i → length out ≡ 12 → ((k : ℕ) → k < i → get_or out k 0 ≡ get_or bs k 0) → ((k : ℕ) → i ≤ k → get_or out k 0 ≡ 0) → Padded out bs
-padded_end out bs i h l f g =
-    record { long = l; bytes = λ k. elim (either k i) [ inl q ↦ f k q | inr q ↦ g k q ∙ sym (get_or_past bs k 0 (omega arith)) ] }
 
 full : (bs : Name) → IsName bs → (k : ℕ) → k < length bs → get_or bs k 0 ≢ 0
 full bs G k h e = not_both (sym (ap name_byte e) ∙ G.bytes k h)
@@ -40,21 +37,19 @@ trimmed_is (suc b ∷ nm) (c ∷ cs) h f g =
 pub padded_name : (title : List ℕ) (bs : Name) → IsName bs → Padded title bs → trimmed title ≡ bs
 padded_name title bs G P = trimmed_is title bs (omega (arith, G.few, P.long)) P.bytes (full bs G)
 
-found_name : (nm title : List ℕ) (bs : Name) → length nm ≡ 12 → IsName bs → Padded title bs → Twelve nm title → trimmed nm ≡ bs
-found_name nm title bs l G P f =
-    trimmed_is nm bs (omega (arith, G.few))
-    (λ k. elim (either k 12) [
-      | inl h ↦ f k h ∙ P.bytes k
-      | inr h ↦ get_or_past nm k 0 (omega arith) ∙ sym (get_or_past bs k 0 (omega (arith, G.few)))
-    ])
-    (full bs G)
-
+-- what the search for a name finds
 module _ (s : Contents) (K : Sound s) (title : List ℕ) (bs : Name) (G : IsName bs) (P : Padded title bs) where
-  pub known_title : (i : ℕ) → i < s.names → Twelve (row s.rows i).name title → name_of s.rows i ≡ bs
-  known_title i h f = found_name (row s.rows i).name title bs (K.spelt i h).1.long G P f
+  pub known_title : (i : ℕ) → Some i ≡ position (λ (r : Row). bytes_eq r.name title) (take s.names s.rows) → (i < s.names) × (name_of s.rows i ≡ bs)
+  known_title i e =
+      let f = found_at (λ (r : Row). bytes_eq r.name title) s.rows s.names K.names_fit.0 i e in
+      (f.0, ap trimmed ((bytes_eq-Decides (row s.rows i).name title).0 f.1) ∙ padded_name title bs G P)
 
-  pub no_title : ((i : ℕ) → i < s.names → Twelve (row s.rows i).name title → ⊥) → (i : ℕ) → i < s.names → name_of s.rows i ≡ bs → ⊥
-  no_title f i h e = f i h (λ j l. (K.spelt i h).1.bytes j ∙ ap (λ (b : Name). get_or b j 0) e ∙ sym (P.bytes j))
+  -- a name is padded in one way
+  pub no_title : None ≡ position (λ (r : Row). bytes_eq r.name title) (take s.names s.rows) → (i : ℕ) → i < s.names → name_of s.rows i ≡ bs → ⊥
+  no_title e i h g =
+      let S = (K.spelt i h).1 in
+      let same = ext_get_or 0 (row s.rows i).name title (S.long ∙ sym P.long) (λ j l. S.bytes j ∙ ap (λ (b : Name). get_or b j 0) g ∙ sym (P.bytes j)) in
+      found_none (λ (r : Row). bytes_eq r.name title) s.rows s.names K.names_fit.0 e i h ((bytes_eq-Decides (row s.rows i).name title).1 same)
 
 pub titled_of : (s : Contents) (title : List ℕ) (bs : Name) → Padded title bs → s.names < length s.rows
     → Titled s (record { rows = set s.rows s.names (with_name (row s.rows s.names) title); names = s.names + 1; nodes = s.nodes; equations = s.equations; priced = s.priced }) bs

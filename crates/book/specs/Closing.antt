@@ -11,14 +11,14 @@
 -- | weight    | what falls with each step: twice the classes, and the marks                                   |
 -- | Reclassed | only classes are changed                                                                      |
 -- | Turned    | some classes of equal nodes were made one                                                     |
--- | Accepted  | an equation is stored, and the classes are closed under it                                    |
-use Rattle.std.specs.Prelude.{◌≡◌, ℕ, ◌+◌, ◌<◌, ◌≤◌, Bool, true, false, cond, ◌≢◌, ◌⊎◌, List, [], ◌∷◌, length, Some, None, Option, slice_index_or, slice_set}
+-- | Accepted  | the classes are closed under one equation more                                                |
+use Rattle.std.specs.Prelude.{◌≡◌, ℕ, ◌+◌, ◌<◌, ◌≤◌, Bool, true, false, cond, ◌≢◌, ◌⊎◌, List, [], ◌∷◌, length, slice_index_or, slice_set}
 use mathlib.Core.List.{Memᴰ}
 use Rattle.theory.specs.Tables.{Shape, NodePairs, EachPart}
 use Rattle.theory.specs.Steps.{Partway, class_count}
 use Rattle.book.specs.declared.row.Row.{Row}
 use Rattle.book.specs.declared.row.Signature.{Signature}
-use Rattle.book.specs.Rows.{row, class, shape, sign, table, bare, with_class, stored, Relabelled, Based}
+use Rattle.book.specs.Rows.{row, class, shape, sign, table, bare, with_class, Relabelled, Based}
 
 abbrev pub key : List Row → ℕ → Signature
 key rows i =
@@ -28,9 +28,6 @@ key rows i =
       left = class rows (row rows i).node.left;
       right = class rows (row rows i).node.right;
     }
-
-abbrev pub Agree : Signature → Signature → Type 0
-Agree a b = (a.symbol ≡ b.symbol) × (a.parts ≡ b.parts) × (a.left ≡ b.left) × (a.right ≡ b.right)
 
 -- the classes of i and j are one, the lower, and it is marked
 pub record Joined (xs ys : List Row) (ds es : List Bool) (n i j : ℕ) : Type 0 where
@@ -83,14 +80,9 @@ pub record Turned (n : ℕ) (xs ys : List Row) (ds es : List Bool) : Type 0 wher
   pub lighter : weight n ys es ≤ weight n xs ds
   pub sound : (ps : NodePairs) → Partway (table bare xs n) (class xs) ps → Partway (table bare xs n) (class ys) ps
 
--- a marked class, if there is one
-abbrev pub Marked : List Bool → Option ℕ → Type 0
-Marked ds (Some d) = (d < length ds) × (slice_index_or ds d false ≡ true)
-Marked ds None = (d : ℕ) → slice_index_or ds d false ≡ false
-
--- the equation of a and b is stored at k, and the classes are closed under it
-pub record Accepted (xs ys : List Row) (n k a b : ℕ) : Type 0 where
-  pub only : Reclassed n (stored xs k a b) ys
+-- the classes are closed under the equation of a and b
+pub record Accepted (xs ys : List Row) (n a b : ℕ) : Type 0 where
+  pub only : Reclassed n xs ys
   pub based : Based ys n
   pub level : Level ys n
   pub coarser : (i j : ℕ) → i < n → j < n → class xs i ≡ class xs j → class ys i ≡ class ys j

@@ -6,10 +6,10 @@
 -- | Within   | its parts are nodes                                                      |
 -- | new_node | the same as a row has it, in a class, with no choice                     |
 -- | raw_of   | what a row's node says: symbol, number of parts, parts                   |
--- | Finds    | the node that says the same as another, if there is one                  |
+-- | same_signature | whether two nodes say the same                                     |
 -- | Meets    | a node that is congruent to the last, if there is one                    |
 -- | Put      | a node is stored, in the class of a congruent one if there is one        |
-use Rattle.std.specs.Prelude.{◌≡◌, ℕ, ◌<◌, ◌⊎◌, List, Some, None, Option, ◌≢◌, slice_set}
+use Rattle.std.specs.Prelude.{◌≡◌, ℕ, Bool, ◌==◌, ◌&&◌, ◌<◌, ◌⊎◌, List, Option, MatchOption, ◌≢◌, slice_set}
 use Rattle.theory.specs.Books.{Node as Entry, leaf, over, pair}
 use Rattle.book.specs.declared.row.Row.{Row}
 use Rattle.book.specs.declared.row.Node.{Node}
@@ -17,7 +17,6 @@ use Rattle.book.specs.declared.row.Signature.{Signature}
 use Rattle.book.specs.declared.id.Parts.{Parts}
 use Rattle.book.specs.declared.id.Parts.TheVariants.{Zero, One, Two}
 use Rattle.book.specs.Rows.{row, class, sign, with_class}
-use Rattle.book.specs.Closing.{Agree}
 
 abbrev pub asked : ℕ → Parts → Entry
 asked x Zero = leaf x
@@ -43,15 +42,14 @@ with_node r x = record { name = r.name; node = x; equation = r.equation }
 abbrev pub raw_of : Node → Signature
 raw_of x = record { symbol = x.symbol; parts = x.parts; left = x.left; right = x.right }
 
--- a node below n that says what x says
-abbrev pub Finds : List Row → ℕ → Node → Option ℕ → Type 0
-Finds rows n x (Some i) = (i < n) × Agree (raw_of (row rows i).node) (raw_of x)
-Finds rows n x None = (i : ℕ) → i < n → Agree (raw_of (row rows i).node) (raw_of x) → ⊥
+-- whether two say the same, as `==` tells
+abbrev pub same_signature : Signature → Signature → Bool
+same_signature a b = (a.symbol == b.symbol) && (a.parts == b.parts) && (a.left == b.left) && (a.right == b.right)
 
 -- a node below n that is congruent to node n
 abbrev pub Meets : List Row → ℕ → Option ℕ → Type 0
-Meets rows n (Some i) = (i < n) × (sign rows i ≡ sign rows n)
-Meets rows n None = (i : ℕ) → i < n → sign rows i ≢ sign rows n
+Meets rows n r =
+    MatchOption r ((i : ℕ) → i < n → sign rows i ≢ sign rows n) (λ i. (i < n) × (sign rows i ≡ sign rows n))
 
 abbrev pub placed : List Row → ℕ → Node → List Row
 placed rows n x = slice_set rows n (with_node (row rows n) x)

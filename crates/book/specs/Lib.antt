@@ -6,5 +6,4 @@ pub mod Invariant
 pub mod Entering
 pub mod Changes
 pub mod Answers
-pub mod Names
 pub mod Held

@@ -1,5 +1,5 @@
 // Making a book: its rows are cleared.
-ghost use Rattle.std.specs.Prelude.{◌≤◌, min, length};
+ghost use Rattle.std.specs.Prelude.{min, length};
 ghost use Rattle.book.specs.Changes.{Cleared};
 
 use crate::room::usable;
@@ -19,20 +19,10 @@ const BLANK: Row = Row {
     equation: Equation { left: 0, right: 0 },
 };
 
-// clears the first `room` rows
-fn clear_first(rows: &mut [Row], room: usize)
-    requires { room ≤ length rows.old }
-    ensures { Cleared rows.old rows.new room }
-{
-    for i in 0..room {
-        rows[i] = BLANK;
-    }
-}
-
 // clears the rows that a book may use
 pub(crate) fn clear(rows: &mut [Row])
     ensures { Cleared rows.old rows.new (min (length rows.old) 1024) }
 {
     let room = usable(rows.len());
-    clear_first(rows, room);
+    rows[..room].fill(BLANK);
 }

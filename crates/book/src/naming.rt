@@ -1,15 +1,15 @@
 // Naming: from bytes to a symbol.
-ghost use Rattle.std.specs.Prelude.{◌≡◌, ◌+◌, ◌<◌, ◌≤◌, length, Decides};
+ghost use Rattle.std.specs.Prelude.{◌≡◌, ◌≤◌, length, position, take};
+ghost use Rattle.std.specs.Str.{bytes_eq};
 ghost use Rattle.theory.specs.Calls.{Naming};
 ghost use Rattle.book.specs.Invariant.{Padded};
-ghost use Rattle.book.specs.Names.{Twelve, Looks};
 ghost use Rattle.book.specs.Layout.{Relaid};
-ghost use Rattle.book.specs.Held.{Holds, contents, state};
+ghost use Rattle.book.specs.Held.{contents, state};
 ghost use Rattle.book.specs.Answers.{symbol_answer};
 
+use crate::book::Book;
 use crate::id::Symbol;
 use crate::room::usable;
-use crate::table::Table;
 use text::cause::{BookCause, FieldCause, Layer};
 use text::name::is_name;
 
@@ -19,57 +19,40 @@ fn padded(bytes: &[u8]) -> [u8; 12]
     ensures { Padded result bytes.now }
 {
     let mut out = [0; 12];
-    for i in 0..bytes.len() {
-        out[i] = bytes[i];
-    }
+    out[..bytes.len()].copy_from_slice(bytes);
     out
 }
 
-fn matches(a: [u8; 12], b: [u8; 12]) -> bool
-    ensures { Decides result (Twelve a b) }
-{
-    for i in 0..12 {
-        if a[i] != b[i] {
-            return false;
-        }
-    }
-    true
-}
-
-impl Table<'_> {
+impl Book<'_> {
     // the symbol of that name, if there is one
     fn look(&self, title: [u8; 12]) -> Option<usize>
-        requires { self.now.names ≤ length self.now.rows.now }
-        ensures { Looks self.now.rows.now self.now.names title result }
+        ensures { result ≡ position (λ r. bytes_eq r.name title) (take self.now.table.names self.now.table.rows.now) }
     {
-        for i in 0..self.names {
-            if matches(self.rows[i].name, title) {
-                return Some(i);
-            }
-        }
-        None
+        self.table.rows[..self.table.names]
+            .iter()
+            .position(|row| row.name == title)
     }
 
-    pub(crate) fn name(&mut self, bytes: &[u8]) -> Result<Symbol, Layer>
-        requires { Holds self.old }
-        ensures holds { Holds self.new }
-        ensures answer { Naming (state self.old) bytes.now (symbol_answer result) (state self.new) }
-        ensures laid { Relaid (contents self.old) (contents self.new) }
-        ensures lent { self.new.rows.ghost_name ≡ self.old.rows.ghost_name }
+    /// The symbol of a name: the known one, or else the next.
+    pub fn name(&mut self, bytes: &[u8]) -> Result<Symbol, Layer>
+        ensures answer { Naming (state self.old.table) bytes.now (symbol_answer result) (state self.new.table) }
+        ensures laid { Relaid (contents self.old.table) (contents self.new.table) }
+        ensures lent { self.new.table.rows.ghost_name ≡ self.old.table.rows.ghost_name }
     {
         if !is_name(bytes) {
-            return Err(Layer::Field(FieldCause::Broken));
+            return Err(FieldCause::Broken.into());
         }
         let title = padded(bytes);
         if let Some(i) = self.look(title) {
             return Ok(Symbol(i));
         }
-        let n = self.names;
-        if n >= usable(self.rows.len()) {
-            return Err(Layer::Book(BookCause::NamesFull));
+        let n = self.table.names;
+        if n >= usable(self.table.rows.len()) {
+            return Err(BookCause::NamesFull.into());
         }
-        self.rows[n].name = title;
-        self.names = n + 1;
+        let table = &mut self.table;
+        table.rows[n].name = title;
+        table.names = n + 1;
         Ok(Symbol(n))
     }
 }

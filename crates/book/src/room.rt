@@ -1,8 +1,11 @@
 // How many of the rows lent a book may use.
 ghost use Rattle.std.specs.Prelude.{◌≡◌, min};
 
+// how many at most: a row's place fits in 16 bits, and so does one more
+pub(crate) const MOST: usize = 1024;
+
 pub(crate) fn usable(rows: usize) -> usize
     ensures { result ≡ min rows 1024 }
 {
-    if rows < 1024 { rows } else { 1024 }
+    rows.min(MOST)
 }

@@ -1,21 +1,34 @@
--- An equation that the classes hold already is only stored; else they are joined and closed.
-use Rattle.std.proofs.Common.{false, replicate, refl, arith}
+-- An equation that the classes hold already changes nothing; else they are joined and closed.
+use Rattle.std.proofs.Common.{rules, ℕ, false, replicate, length, sym, subst, arith}
 use lib.ListN.{length-replicate}
-use Rattle.book.specs.Rows.{stored}
-use Rattle.book.proofs.Sweeps.{midway, accepted_of, held_already}
+use Rattle.book.specs.Closing.{Waits, Level, Turned}
+use Rattle.book.proofs.Sweeps.{joined_waits, accepted_of, accepted_as, held_already}
+use Rattle.book.proofs.Merging.{joined_step}
 use Rattle.book.proofs.closing.accept.Goals as goal
 
 pub returns-then-rows-a : goal.returns-then-rows-a
-returns-then-rows-a c = held_already c.args.rows.now c.args.nodes c.args.at c.args.a c.args.b c.requires.based c.requires.level c.if-rows-a.true
+returns-then-rows-a c = held_already c.args.rows.now (length c.args.rows.now) c.args.a c.args.b c.requires.based c.requires.level c.if-rows-a.true
 
 pub close-requires : goal.close-requires
 close-requires c =
-    let m = midway c.args.rows.now c.join.new.rows (replicate 1024 false) c.join.new.dirty c.args.nodes c.args.at c.args.a c.args.b
-    c.requires.fits.0 (omega (arith, c.requires.fits.1, length-replicate 1024 false)) c.requires.tidy c.requires.based c.requires.level c.requires.inside.0 c.requires.inside.1 c.join.ensures in
-    record { fits = m.fits; room = m.room; tidy = m.tidy; based = m.based; waits = m.waits }
+    let r = c.requires in
+    let xs = c.args.rows.now in
+    let ys = c.join.new.self.rows.now in
+    let J = c.join.ensures.joined in
+    let S = joined_step xs ys (replicate 1024 false) c.join.new.self.dirty (length xs) c.args.a c.args.b (omega arith) r.tidy r.based r.inside.0 r.inside.1 J in
+    subst (λ (k : ℕ). Waits ys k c.join.new.self.dirty) (sym S.only.long)
+    (joined_waits xs ys (replicate 1024 false) c.join.new.self.dirty (length xs) c.args.a c.args.b (omega arith) (omega (arith, r.few, length-replicate 1024 false))
+    r.tidy r.based r.inside.0 r.inside.1 J r.level)
 
 pub returns : goal.returns
 returns c =
-    accepted_of c.args.rows.now (stored c.args.rows.now c.args.at c.args.a c.args.b) c.join.new.rows _ (replicate 1024 false) c.join.new.dirty _
-    c.args.nodes c.args.at c.args.a c.args.b
-    c.requires.fits.0 c.requires.tidy c.requires.based c.requires.inside.0 c.requires.inside.1 refl c.join.ensures c.close.ensures.turned c.close.ensures.level
+    let r = c.requires in
+    let xs = c.args.rows.now in
+    let ys = c.join.new.self.rows.now in
+    let zs = c.close.new.self.rows.now in
+    let J = c.join.ensures.joined in
+    let S = joined_step xs ys (replicate 1024 false) c.join.new.self.dirty (length xs) c.args.a c.args.b (omega arith) r.tidy r.based r.inside.0 r.inside.1 J in
+    let T = subst (λ (k : ℕ). Turned k ys zs c.join.new.self.dirty c.close.new.self.dirty) S.only.long c.close.ensures.turned in
+    let L = subst (λ (k : ℕ). Level zs k) S.only.long c.close.ensures.level in
+    accepted_as xs _ zs (length xs) c.args.a c.args.b (search (rules, c.join.ensures.lent, c.close.ensures.lent))
+    (accepted_of xs ys zs (replicate 1024 false) c.join.new.self.dirty c.close.new.self.dirty (length xs) c.args.a c.args.b (omega arith) r.tidy r.based r.inside.0 r.inside.1 J T L)

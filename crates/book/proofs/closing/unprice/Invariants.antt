@@ -1,6 +1,6 @@
--- The choices before i are 0.
+-- The choices before the index are 0.
 use Rattle.book.specs.Rows.{Unchosen}
 use Rattle.book.proofs.closing.unprice.Given as goal
 
-abbrev pub invariant-loop-i : goal.invariant-loop-i
-invariant-loop-i l = Unchosen l.initial.rows l.rows l.i
+abbrev pub invariant-loop-row : goal.invariant-loop-row
+invariant-loop-row l = Unchosen l.initial.rows l.rows l.row-index

@@ -1,0 +1,93 @@
+-- A symbol or a part is unknown, the node is known, there is no row, or the node is new.
+use Rattle.std.proofs.Common.{◌+◌, ◌-◌, refl, arith}
+use mathlib.Core.Bool.{false≢true}
+use Rattle.theory.specs.Calls.{Entering.no_symbol, Entering.no_part}
+use Rattle.book.specs.Held.{contents}
+use Rattle.book.proofs.Whole.{sound_of}
+use Rattle.book.proofs.States.{names_long}
+use Rattle.book.proofs.Booked.{kept_of, laid_left, told}
+use Rattle.book.proofs.Asked.{asked_symbol, within_asked}
+use Rattle.book.proofs.Entered.{answers_known, answers_full, put_tidy, put_based, put_unpriced_front, answers_new, sound_entered, laid_entered}
+use Rattle.book.proofs.book.Book.enter.Goals as goal
+
+pub returns-then-symbol-self-clause-answer : goal.returns-then-symbol-self-clause-answer
+returns-then-symbol-self-clause-answer c =
+    let s = contents c.args.self.now.table in
+    let z = names_long s (sound_of s c.args.self.now.holds) in
+    let e = asked_symbol c.args.symbol.0 c.args.parts in
+    no_symbol (λ h. omega arith) (told c.into.ensures) refl
+
+pub returns-then-symbol-self-clause-laid : goal.returns-then-symbol-self-clause-laid
+returns-then-symbol-self-clause-laid c = laid_left c.args.self.now.table c.args.self.now.holds
+
+pub returns-then-not-within-clause-answer : goal.returns-then-not-within-clause-answer
+returns-then-not-within-clause-answer c =
+    let s = contents c.args.self.now.table in
+    let K = sound_of s c.args.self.now.holds in
+    let z = names_long s K in
+    let e = asked_symbol c.args.symbol.0 c.args.parts in
+    no_part (omega arith) (λ h. false≢true (c.if-not-within.ensures.1 (within_asked s K c.args.symbol.0 c.args.parts h))) (told c.into-then-not-within.ensures) refl
+
+pub returns-then-not-within-clause-laid : goal.returns-then-not-within-clause-laid
+returns-then-not-within-clause-laid c = laid_left c.args.self.now.table c.args.self.now.holds
+
+pub wanted-node-requires : goal.wanted-node-requires
+wanted-node-requires c =
+    let K = sound_of (contents c.args.self.now.table) c.args.self.now.holds in
+    (omega (arith, K.names_fit.1), K.nodes_fit.1, c.if-not-within.ensures.0 refl)
+
+pub returns-in-Some-clause-answer : goal.returns-in-Some-clause-answer
+returns-in-Some-clause-answer c =
+    let s = contents c.args.self.now.table in
+    answers_known s (sound_of s c.args.self.now.holds) c.args.symbol.0 c.args.parts c.wanted-node.result (omega arith) (c.if-not-within.ensures.0 refl)
+    c.wanted-node.ensures c.in-Some.i c.in-Some.ensures
+
+pub returns-in-Some-clause-laid : goal.returns-in-Some-clause-laid
+returns-in-Some-clause-laid c = laid_left c.args.self.now.table c.args.self.now.holds
+
+pub returns-then-n-usable-clause-answer : goal.returns-then-n-usable-clause-answer
+returns-then-n-usable-clause-answer c =
+    let s = contents c.args.self.now.table in
+    answers_full s (sound_of s c.args.self.now.holds) c.args.symbol.0 c.args.parts c.wanted-node.result (omega arith) (c.if-not-within.ensures.0 refl)
+    c.wanted-node.ensures c.in_default.ensures (omega (arith, c.usable.ensures)) _ (told c.into-then-n-usable.ensures)
+
+pub returns-then-n-usable-clause-laid : goal.returns-then-n-usable-clause-laid
+returns-then-n-usable-clause-laid c = laid_left c.args.self.now.table c.args.self.now.holds
+
+pub put-requires-clause-tidy : goal.put-requires-clause-tidy
+put-requires-clause-tidy c =
+    let s = contents c.args.self.now.table in
+    put_tidy s (sound_of s c.args.self.now.holds) c.args.symbol.0 c.args.parts c.wanted-node.result (omega arith) (c.if-not-within.ensures.0 refl)
+    c.wanted-node.ensures c.in_default.ensures (omega (arith, c.usable.ensures)) _ (omega arith)
+
+pub put-requires-clause-based : goal.put-requires-clause-based
+put-requires-clause-based c =
+    let s = contents c.args.self.now.table in
+    put_based s (sound_of s c.args.self.now.holds) c.args.symbol.0 c.args.parts c.wanted-node.result (omega arith) (c.if-not-within.ensures.0 refl)
+    c.wanted-node.ensures c.in_default.ensures (omega (arith, c.usable.ensures)) _ (omega arith)
+
+pub unprice-requires : goal.unprice-requires
+unprice-requires c =
+    let s = contents c.args.self.now.table in
+    put_unpriced_front s (sound_of s c.args.self.now.holds) c.args.symbol.0 c.args.parts c.wanted-node.result (omega arith) (c.if-not-within.ensures.0 refl)
+    c.wanted-node.ensures c.in_default.ensures (omega (arith, c.usable.ensures)) _ (omega arith) _ c.put.ensures
+
+pub invariant_of-self : goal.invariant_of-self
+invariant_of-self c =
+    let s = contents c.args.self.now.table in
+    record {
+      holds = ∣ kept_of _ (sound_entered s (sound_of s c.args.self.now.holds) c.args.symbol.0 c.args.parts c.wanted-node.result (omega arith) (c.if-not-within.ensures.0 refl)
+          c.wanted-node.ensures c.in_default.ensures (omega (arith, c.usable.ensures)) ((s.nodes + 1) - 0) (omega arith) _ c.put.ensures _ c.unprice.ensures) ∣₁;
+    }
+
+pub returns-clause-answer : goal.returns-clause-answer
+returns-clause-answer c =
+    let s = contents c.args.self.now.table in
+    answers_new s (sound_of s c.args.self.now.holds) c.args.symbol.0 c.args.parts c.wanted-node.result (omega arith) (c.if-not-within.ensures.0 refl)
+    c.wanted-node.ensures c.in_default.ensures (omega (arith, c.usable.ensures)) ((s.nodes + 1) - 0) (omega arith) _ c.put.ensures _ c.unprice.ensures
+
+pub returns-clause-laid : goal.returns-clause-laid
+returns-clause-laid c =
+    let s = contents c.args.self.now.table in
+    laid_entered s (sound_of s c.args.self.now.holds) c.args.symbol.0 c.args.parts c.wanted-node.result (omega arith) (c.if-not-within.ensures.0 refl)
+    c.wanted-node.ensures c.in_default.ensures (omega (arith, c.usable.ensures)) ((s.nodes + 1) - 0) (omega arith) _ c.put.ensures _ c.unprice.ensures

@@ -1,0 +1,88 @@
+-- A node is unknown, there is no row, or the equation is accepted.
+use Rattle.std.proofs.Common.{◌-◌, refl, arith}
+use Rattle.theory.specs.Calls.{Equating.no_node}
+use Rattle.book.specs.Held.{contents}
+use Rattle.book.proofs.Whole.{sound_of}
+use Rattle.book.proofs.States.{nodes_long}
+use Rattle.book.proofs.Booked.{kept_of, laid_left, told}
+use Rattle.book.proofs.Accepted.{answers_full, fit, long_front, accept_tidy, accept_based, accept_level, accepted_unpriced_front, answers_new, sound_accepted, laid_accepted}
+use Rattle.book.proofs.book.Book.equate.Goals.{then-a-n-via-then-a-n, then-a-n-via-else-a-n+then-b-n}
+use Rattle.book.proofs.book.Book.equate.Goals as goal
+
+pub returns-then-a-n-clause-answer : goal.returns-then-a-n-clause-answer
+returns-then-a-n-clause-answer c =
+    let s = contents c.args.self.now.table in
+    let z = nodes_long s (sound_of s c.args.self.now.holds) in
+    no_node (λ h. elim c.then-a-n.branch [
+      | then-a-n-via-then-a-n w ↦ omega (arith, h.0, w.if-a-n.true)
+      | then-a-n-via-else-a-n+then-b-n w ↦ omega (arith, h.1, w.if-b-n.true)
+    ]) (told c.into.ensures) refl
+
+pub returns-then-a-n-clause-laid : goal.returns-then-a-n-clause-laid
+returns-then-a-n-clause-laid c = laid_left c.args.self.now.table c.args.self.now.holds
+
+pub returns-then-at-usable-clause-answer : goal.returns-then-at-usable-clause-answer
+returns-then-at-usable-clause-answer c =
+    let s = contents c.args.self.now.table in
+    answers_full s (sound_of s c.args.self.now.holds) c.args.a.0 c.args.b.0 (omega arith) (omega arith) (omega (arith, c.usable.ensures)) _ (told c.into-then-at-usable.ensures)
+
+pub returns-then-at-usable-clause-laid : goal.returns-then-at-usable-clause-laid
+returns-then-at-usable-clause-laid c = laid_left c.args.self.now.table c.args.self.now.holds
+
+pub overflow_cast-table : goal.overflow_cast-table
+overflow_cast-table c = let K = sound_of (contents c.args.self.now.table) c.args.self.now.holds in omega (arith, K.nodes_fit.1)
+
+pub overflow_cast-table-2 : goal.overflow_cast-table-2
+overflow_cast-table-2 c = let K = sound_of (contents c.args.self.now.table) c.args.self.now.holds in omega (arith, K.nodes_fit.1)
+
+pub slice_bounds-rows-end : goal.slice_bounds-rows-end
+slice_bounds-rows-end c =
+    let s = contents c.args.self.now.table in
+    fit s (sound_of s c.args.self.now.holds) c.args.a.0 c.args.b.0 (omega arith) (omega arith) (omega (arith, c.usable.ensures)) (s.nodes - 0) (omega arith)
+
+pub accept-requires-clause-few : goal.accept-requires-clause-few
+accept-requires-clause-few c =
+    let s = contents c.args.self.now.table in
+    let K = sound_of s c.args.self.now.holds in
+    omega (arith, K.nodes_fit.1, long_front s (sound_of s c.args.self.now.holds) c.args.a.0 c.args.b.0 (omega arith) (omega arith) (omega (arith, c.usable.ensures)) (s.nodes - 0) (omega arith))
+
+pub accept-requires-clause-tidy : goal.accept-requires-clause-tidy
+accept-requires-clause-tidy c =
+    let s = contents c.args.self.now.table in
+    accept_tidy s (sound_of s c.args.self.now.holds) c.args.a.0 c.args.b.0 (omega arith) (omega arith) (omega (arith, c.usable.ensures)) (s.nodes - 0) (omega arith)
+
+pub accept-requires-clause-based : goal.accept-requires-clause-based
+accept-requires-clause-based c =
+    let s = contents c.args.self.now.table in
+    accept_based s (sound_of s c.args.self.now.holds) c.args.a.0 c.args.b.0 (omega arith) (omega arith) (omega (arith, c.usable.ensures)) (s.nodes - 0) (omega arith)
+
+pub accept-requires-clause-level : goal.accept-requires-clause-level
+accept-requires-clause-level c =
+    let s = contents c.args.self.now.table in
+    accept_level s (sound_of s c.args.self.now.holds) c.args.a.0 c.args.b.0 (omega arith) (omega arith) (omega (arith, c.usable.ensures)) (s.nodes - 0) (omega arith)
+
+pub accept-requires-clause-inside : goal.accept-requires-clause-inside
+accept-requires-clause-inside c =
+    let s = contents c.args.self.now.table in
+    let z = long_front s (sound_of s c.args.self.now.holds) c.args.a.0 c.args.b.0 (omega arith) (omega arith) (omega (arith, c.usable.ensures)) (s.nodes - 0) (omega arith) in
+    (omega arith, omega arith)
+
+pub unprice-requires : goal.unprice-requires
+unprice-requires c =
+    let s = contents c.args.self.now.table in
+    accepted_unpriced_front s (sound_of s c.args.self.now.holds) c.args.a.0 c.args.b.0 (omega arith) (omega arith) (omega (arith, c.usable.ensures)) (s.nodes - 0) (omega arith) _ c.accept.ensures
+
+pub invariant_of-self : goal.invariant_of-self
+invariant_of-self c =
+    let s = contents c.args.self.now.table in
+    record { holds = ∣ kept_of _ (sound_accepted s (sound_of s c.args.self.now.holds) c.args.a.0 c.args.b.0 (omega arith) (omega arith) (omega (arith, c.usable.ensures)) (s.nodes - 0) (omega arith) _ c.accept.ensures _ c.unprice.ensures) ∣₁ }
+
+pub returns-clause-answer : goal.returns-clause-answer
+returns-clause-answer c =
+    let s = contents c.args.self.now.table in
+    answers_new s (sound_of s c.args.self.now.holds) c.args.a.0 c.args.b.0 (omega arith) (omega arith) (omega (arith, c.usable.ensures)) (s.nodes - 0) (omega arith) _ c.accept.ensures _ c.unprice.ensures
+
+pub returns-clause-laid : goal.returns-clause-laid
+returns-clause-laid c =
+    let s = contents c.args.self.now.table in
+    laid_accepted s (sound_of s c.args.self.now.holds) c.args.a.0 c.args.b.0 (omega arith) (omega arith) (omega (arith, c.usable.ensures)) (s.nodes - 0) (omega arith) _ c.accept.ensures _ c.unprice.ensures

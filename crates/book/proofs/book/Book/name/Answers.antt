@@ -1,0 +1,53 @@
+-- A name is ill formed, known, without a row, or new.
+use Rattle.std.proofs.Common.{refl, arith}
+use mathlib.Core.Bool.{false≢true}
+use Rattle.theory.specs.Calls.{Naming.ill_formed}
+use Rattle.book.specs.Held.{contents}
+use Rattle.book.proofs.Whole.{sound_of}
+use Rattle.book.proofs.Booked.{kept_of, laid_left, told}
+use Rattle.book.proofs.Named.{answers_known, answers_full, answers_new, sound_named, laid_named}
+use Rattle.book.proofs.book.Book.name.Goals as goal
+
+pub returns-then-not-is_name-clause-answer : goal.returns-then-not-is_name-clause-answer
+returns-then-not-is_name-clause-answer c = ill_formed (λ G. false≢true (c.if-not-is_name.ensures.1 G)) (told c.into.ensures) refl
+
+pub returns-then-not-is_name-clause-laid : goal.returns-then-not-is_name-clause-laid
+returns-then-not-is_name-clause-laid c = laid_left c.args.self.now.table c.args.self.now.holds
+
+pub returns-in-Some-clause-answer : goal.returns-in-Some-clause-answer
+returns-in-Some-clause-answer c =
+    let s = contents c.args.self.now.table in
+    answers_known s (sound_of s c.args.self.now.holds) c.padded-title.result c.args.bytes.now (c.if-not-is_name.ensures.0 refl) c.padded-title.ensures
+    c.in-Some.i c.in-Some.ensures
+
+pub returns-in-Some-clause-laid : goal.returns-in-Some-clause-laid
+returns-in-Some-clause-laid c = laid_left c.args.self.now.table c.args.self.now.holds
+
+pub returns-then-n-usable-clause-answer : goal.returns-then-n-usable-clause-answer
+returns-then-n-usable-clause-answer c =
+    let s = contents c.args.self.now.table in
+    answers_full s (sound_of s c.args.self.now.holds) c.padded-title.result c.args.bytes.now (c.if-not-is_name.ensures.0 refl) c.padded-title.ensures
+    c.in_default.ensures (omega (arith, c.usable.ensures)) _ (told c.into-then-n-usable.ensures)
+
+pub returns-then-n-usable-clause-laid : goal.returns-then-n-usable-clause-laid
+returns-then-n-usable-clause-laid c = laid_left c.args.self.now.table c.args.self.now.holds
+
+pub invariant_of-self : goal.invariant_of-self
+invariant_of-self c =
+    let s = contents c.args.self.now.table in
+    record {
+      holds = ∣ kept_of _ (sound_named s (sound_of s c.args.self.now.holds) c.padded-title.result c.args.bytes.now (c.if-not-is_name.ensures.0 refl) c.padded-title.ensures
+          c.in_default.ensures (omega (arith, c.usable.ensures))) ∣₁;
+    }
+
+pub returns-clause-answer : goal.returns-clause-answer
+returns-clause-answer c =
+    let s = contents c.args.self.now.table in
+    answers_new s (sound_of s c.args.self.now.holds) c.padded-title.result c.args.bytes.now (c.if-not-is_name.ensures.0 refl) c.padded-title.ensures
+    c.in_default.ensures (omega (arith, c.usable.ensures))
+
+pub returns-clause-laid : goal.returns-clause-laid
+returns-clause-laid c =
+    let s = contents c.args.self.now.table in
+    laid_named s (sound_of s c.args.self.now.holds) c.padded-title.result c.args.bytes.now (c.if-not-is_name.ensures.0 refl) c.padded-title.ensures
+    c.in_default.ensures (omega (arith, c.usable.ensures))
