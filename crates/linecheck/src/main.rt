@@ -19,9 +19,11 @@ const ROOM: u64 = LONGEST_TEXT as u64 + 1;
 /// More than any printed row has.
 const ROW: usize = 512;
 
-/// How many lines were checked, and how many faults were found.
+/// The two texts, and how many of their lines were checked and how many faults were found so far.
 #[derive(Drop)]
-struct Tally {
+struct Session<'a> {
+    log: &'a [u8],
+    sheet: &'a [u8],
     lines: usize,
     faults: usize,
 }
@@ -58,53 +60,45 @@ fn say(rt: &HostRuntime, line: &TextLine<'_>, record: &Record<'_>) -> io::Result
     send(rt, &row, len)
 }
 
-/// Prints a fault and counts it.
-fn tell(
-    rt: &HostRuntime,
-    fault: &Fault,
-    log: &[u8],
-    sheet: &[u8],
-    tally: &mut Tally,
-) -> io::Result<()> {
-    tally.faults = tally.faults.saturating_add(1);
-    let mut row = [0; ROW];
-    let len = print_fault(&mut row, fault, cited(log, sheet, fault));
-    send(rt, &row, len)
-}
+impl Session<'_> {
+    /// Prints a fault and counts it.
+    fn tell(&mut self, rt: &HostRuntime, fault: &Fault) -> io::Result<()> {
+        self.faults = self.faults.saturating_add(1);
+        let mut row = [0; ROW];
+        let len = print_fault(&mut row, fault, cited(self.log, self.sheet, fault));
+        send(rt, &row, len)
+    }
 
-/// Checks the lines of one text, and prints each as it is checked.
-fn check<'a>(
-    rt: &HostRuntime,
-    source: Source,
-    log: &'a [u8],
-    sheet: &'a [u8],
-    tally: &mut Tally,
-) -> io::Result<()> {
-    let text = text_of(log, sheet, source);
-    if let Err(fault) = check_text(source, text) {
-        return tell(rt, &fault, log, sheet, tally);
-    }
-    let mut lines = Lines::of(source, text);
-    while let Some(line) = lines.next_line() {
-        tally.lines = tally.lines.saturating_add(1);
-        match line.read() {
-            Ok(record) => say(rt, &line, &record)?,
-            Err(fault) => tell(rt, &fault, log, sheet, tally)?,
+    /// Checks the lines of one text, and prints each as it is checked.
+    fn check(&mut self, rt: &HostRuntime, source: Source) -> io::Result<()> {
+        let text = text_of(self.log, self.sheet, source);
+        if let Err(fault) = check_text(source, text) {
+            return self.tell(rt, &fault);
         }
+        let mut lines = Lines::of(source, text);
+        while let Some(line) = lines.next_line() {
+            self.lines = self.lines.saturating_add(1);
+            match line.read() {
+                Ok(record) => say(rt, &line, &record)?,
+                Err(fault) => self.tell(rt, &fault)?,
+            }
+        }
+        Ok(())
     }
-    Ok(())
 }
 
 fn main(rt: HostRuntime) -> io::Result<()> {
     let log = read_text(&rt, "flex.log")?;
     let sheet = read_text(&rt, "pairing.sheet")?;
-    let mut tally = Tally {
+    let mut session = Session {
+        log: &log,
+        sheet: &sheet,
         lines: 0,
         faults: 0,
     };
-    check(&rt, Source::Log, &log, &sheet, &mut tally)?;
-    check(&rt, Source::Sheet, &log, &sheet, &mut tally)?;
+    session.check(&rt, Source::Log)?;
+    session.check(&rt, Source::Sheet)?;
     let mut row = [0; ROW];
-    let len = print_totals(&mut row, tally.lines, tally.faults);
+    let len = print_totals(&mut row, session.lines, session.faults);
     send(&rt, &row, len)
 }
