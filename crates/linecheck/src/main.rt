@@ -16,7 +16,7 @@ use text::refusal::Source;
 /// One byte more than a text may have, so that a longer one shows.
 const ROOM: u64 = LONGEST_TEXT as u64 + 1;
 
-/// More than any printed row has.
+/// More than any printed row has; rows are printed into lent memory.
 const ROW: usize = 512;
 
 /// The two texts, and how many of their lines were checked and how many faults were found so far.
@@ -76,6 +76,7 @@ impl Session<'_> {
             return self.tell(rt, &fault);
         }
         let mut lines = Lines::of(source, text);
+        // the lines are no `Iterator`, whose `next` could not promise what `next_line` does
         while let Some(line) = lines.next_line() {
             self.lines = self.lines.saturating_add(1);
             match line.read() {

@@ -41,11 +41,7 @@ fn some_stock() -> Result<Stock, Layer> {
 }
 
 // prices the book in tables that are filled with the cost of nothing
-fn price_with<R: PriceRule>(
-    book: &mut Book<'_>,
-    rule: &R,
-    nothing: R::Cost,
-) -> Result<(), Layer>
+fn price_with<R: PriceRule>(book: &mut Book<'_>, rule: &R, nothing: R::Cost) -> Result<(), Layer>
     requires costs { 1024 * type_size R.Cost.row < 2 ^ 63 }
     requires waiting { 1024 * type_size (entry-row R.Cost.row) < 2 ^ 63 }
 {
@@ -90,6 +86,9 @@ fn main(rt: HostRuntime) -> io::Result<()> {
     let size = size.min(table.len());
     let mut book = Book::make(&mut table[..size]);
     let filled = fill(&mut book, shape, size);
-    let priced = Told(rule.map_or(Ok(()), |rule| price_by(&mut book, rule)).map(|()| 0));
+    let priced = Told(
+        rule.map_or(Ok(()), |rule| price_by(&mut book, rule))
+            .map(|()| 0),
+    );
     println!(rt; "{filled} {priced}")
 }

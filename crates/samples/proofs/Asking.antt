@@ -9,7 +9,7 @@ use Rattle.book.specs.declared.id.NodeId.{NodeId}
 use Rattle.book.specs.declared.id.EquationId.{EquationId}
 use Rattle.book.specs.Answers.{symbol_answer, node_answer, equation_answer}
 use Rattle.samples.specs.Shapes.{pair_of}
-use Rattle.samples.specs.Filling.{Asked, EquatesPair, is_granted}
+use Rattle.samples.specs.Filling.{Tried, EquatesPair, is_granted}
 
 pub symbol_told : (r : Result Symbol Layer) → is_ok r ≡ is_granted (symbol_answer r)
 symbol_told (Ok x) = refl
@@ -23,10 +23,10 @@ pub equation_told : (r : Result EquationId Layer) → is_ok r ≡ is_granted (eq
 equation_told (Ok x) = refl
 equation_told (Err e) = refl
 
-pub asked_name : (s : State) (bs : Name) (r : Result Symbol Layer) (t : State) → Naming s bs (symbol_answer r) t → Asked (λ u a v. Naming u bs a v) s (is_ok r) t
+pub asked_name : (s : State) (bs : Name) (r : Result Symbol Layer) (t : State) → Naming s bs (symbol_answer r) t → Tried (λ u a v. Naming u bs a v) s (is_ok r) t
 asked_name s bs r t h = record { answer = symbol_answer r; met = h; told = symbol_told r }
 
-pub asked_node : (s : State) (x : Node) (r : Result NodeId Layer) (t : State) → Entering s x (node_answer r) t → Asked (λ u a v. Entering u x a v) s (is_ok r) t
+pub asked_node : (s : State) (x : Node) (r : Result NodeId Layer) (t : State) → Entering s x (node_answer r) t → Tried (λ u a v. Entering u x a v) s (is_ok r) t
 asked_node s x r t h = record { answer = node_answer r; met = h; told = node_told r }
 
 pub asked_pair : (o : Option (NodeId × NodeId)) (p : NodeId × NodeId) (s : State) (r : Result EquationId Layer) (ok : Bool) (t : State)

@@ -1,8 +1,9 @@
 -- Calls one after the other, and how many are granted. Cited by the contracts of the fillings.
 --
--- | word | meaning                                                                                             |
--- |------|-----------------------------------------------------------------------------------------------------|
--- | Run  | the calls 0 to n - 1, each from where the one before ends; g of them are granted                    |
+-- | word  | meaning                                                                                             |
+-- |-------|-----------------------------------------------------------------------------------------------------|
+-- | Gives | what a closure says of a call, as a relation of the value before, the answer and the value after   |
+-- | Run   | the calls 0 to n - 1, each from where the one before ends; g of them are granted                    |
 use Rattle.std.specs.Prelude.{◌≡◌, ℕ, ◌+◌, Bool, cond}
 use Rattle.std.specs.Borrow.{MutBor}
 

@@ -3,7 +3,10 @@
 -- | word       | meaning                                                                            |
 -- |------------|------------------------------------------------------------------------------------|
 -- | word       | the word of a shape                                                                |
--- | spelled    | the i-th name: n and three letters                                                 |
+-- | nth_name   | the i-th name: n and three letters                                                 |
+-- | in_towers  | the i-th node of two towers                                                        |
+-- | in_chain   | the i-th node of a chain                                                           |
+-- | in_tree    | the i-th node of a tree with so many names alone                                   |
 -- | node_asked | the node that the i-th entering asks for                                           |
 -- | pair_of    | two nodes of the code by their numbers                                             |
 -- | pair_asked | the nodes that the i-th equating asks for, if the shape has equations              |
@@ -21,8 +24,8 @@ word Falling = codes "falling"
 word Chain = codes "chain"
 word Tree = codes "tree"
 
-abbrev pub spelled : ℕ → Name
-spelled i = 110 ∷ (97 + i / 676 % 26) ∷ (97 + i / 26 % 26) ∷ (97 + i % 26) ∷ []
+abbrev pub nth_name : ℕ → Name
+nth_name i = 110 ∷ (97 + i / 676 % 26) ∷ (97 + i / 26 % 26) ∷ (97 + i % 26) ∷ []
 
 -- two towers of one name, each node over the last but one
 abbrev pub in_towers : ℕ → Node

@@ -3,7 +3,7 @@ ghost use Rattle.std.specs.Prelude.{◌≡◌, ℕ, ◌<◌, ◌++◌, Some, cod
 ghost use Rattle.book.specs.Held.{state};
 ghost use Rattle.samples.specs.Running.{Run, Gives};
 ghost use Rattle.samples.specs.Shapes.{pair_of};
-ghost use Rattle.samples.specs.Filling.{Names, Enters, EquatesPair, Equates, Fills};
+ghost use Rattle.samples.specs.Filling.{Names, Enters, EquatesPair, Equates, Filling};
 
 use crate::shape::{Shape, spelling};
 use book::book::Book;
@@ -31,6 +31,7 @@ fn granted<F: Fn(&mut Book<'_>, usize) -> bool>(book: &mut Book<'_>, n: usize, c
     requires { (b : _) (i : ℕ) → i < n → F.pre call b i }
     ensures { Run (Gives (F.post call)) book.old n result book.new }
 {
+    // counted by a loop: a chain that takes the closure says nothing of how it leaves the book
     let mut count = 0;
     for i in 0..n {
         if call(book, i) {
@@ -80,9 +81,9 @@ fn equate_all(book: &mut Book<'_>, shape: Shape, rows: usize) -> usize
     })
 }
 
-/// Fills a book by calls: a name, a node and an equation for each row, in the shape's order.
+/// Filling a book by calls: a name, a node and an equation for each row, in the shape's order.
 pub fn fill(book: &mut Book<'_>, shape: Shape, rows: usize) -> Filled
-    ensures answer { Fills shape rows (state book.old.table) result (state book.new.table) }
+    ensures answer { Filling shape rows (state book.old.table) result (state book.new.table) }
     ensures lent { book.new.table.rows.ghost_name ≡ book.old.table.rows.ghost_name }
 {
     let names = name_all(book, rows);

@@ -2,7 +2,7 @@
 ghost use Rattle.std.specs.Prelude.{◌≡◌, ◌≢◌, ◌-◌, ◌/◌, ◌<◌, MatchResult};
 ghost use Rattle.book.specs.Entering.{asked};
 ghost use Rattle.samples.specs.declared.shape.Shape.{Shape};
-ghost use Rattle.samples.specs.Shapes.{word, spelled, in_towers, in_chain, in_tree, node_asked, pair_asked, pair_of};
+ghost use Rattle.samples.specs.Shapes.{word, nth_name, in_towers, in_chain, in_tree, node_asked, pair_asked, pair_of};
 
 use book::id::{NodeId, Parts, Symbol};
 use std::str::FromStr;
@@ -45,7 +45,7 @@ impl FromStr for Shape {
 
 /// The i-th name: n and three letters.
 pub(crate) fn spelling(i: usize) -> [u8; 4]
-    ensures { result ≡ spelled i }
+    ensures { result ≡ nth_name i }
 {
     [
         b'n',
@@ -71,13 +71,12 @@ impl Shape {
 
     /// Which nodes the i-th equating asks for, if the shape has equations.
     pub(crate) fn pair(self, rows: usize, i: usize) -> Option<(NodeId, NodeId)>
-        requires { i < rows }
         ensures { pair_of result ≡ pair_asked self rows i }
     {
         match self {
             Shape::Apart | Shape::Towers => Some((NodeId(0), NodeId(i))),
             Shape::Falling => {
-                let last = rows - 1 - i;
+                let last = rows.saturating_sub(1).saturating_sub(i);
                 Some((NodeId(last.saturating_sub(1)), NodeId(last)))
             }
             Shape::Chain | Shape::Tree => None,

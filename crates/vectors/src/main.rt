@@ -83,6 +83,7 @@ fn checked(text: &[u8]) -> Found {
         found.fault(fault);
     }
     let mut lines = Lines::of(Source::Sheet, text);
+    // the lines are no `Iterator`, whose `next` could not promise what `next_line` does
     while let Some(line) = lines.next_line() {
         found.lines = found.lines.saturating_add(1);
         if let Err(fault) = line.read() {
