@@ -1,0 +1,3 @@
+-- What the proofs of this crate share.
+pub mod Runs
+pub mod Asking
