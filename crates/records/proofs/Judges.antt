@@ -40,11 +40,7 @@ none_found c (k ∷ ks) [] h at place l = l
 none_found c (k ∷ ks) (f ∷ fs) h at place (inl b) = not_bad c k f h.0 b.0
 none_found c (k ∷ ks) (f ∷ fs) h at place (inr l) = none_found c ks fs h.1 _ place l.1
 
--- the first field is bad, or it is fine and leaves the others
-pub found_first : (c : FieldCause) (ks ls : List Form) (k : Form) (fs gs : List (List ℕ)) (f : List ℕ) (at place : ℕ) → ks ≡ k ∷ ls → fs ≡ f ∷ gs
-    → Bad c k f → place ≡ at → Leftmost (Bad c) ks fs at place
-found_first c ks ls k fs gs f at place e d b p = rw (e, d) (inl (b, p))
-
+-- a field that is fine leaves the others
 pub found_more : (c : FieldCause) (ks ls : List Form) (k : Form) (fs gs : List (List ℕ)) (f : List ℕ) (at n : ℕ) → ks ≡ k ∷ ls → fs ≡ f ∷ gs
     → Fine c k f → n ≡ at + length f → (place : ℕ) → Leftmost (Bad c) ls gs (n + 1) place → Leftmost (Bad c) ks fs at place
 found_more c ks ls k fs gs f at n e d h q place l =

@@ -8,7 +8,7 @@ ghost use Rattle.records.specs.Records.{Reads};
 mod iter;
 
 use crate::record::{Line, Record};
-use text::cause::{Layer, LineCause};
+use text::cause::LineCause;
 use text::fault::Fault;
 use text::refusal::Source;
 use text::scan::stretch_at;
@@ -43,7 +43,7 @@ pub fn check_text(source: Source, text: &[u8]) -> Result<(), Fault>
     ensures refused { IfErr result (λ f. (longest_text < length text.now) × TooLong source f) }
 {
     if text.len() > LONGEST_TEXT {
-        return Err(Fault::new(source, 0, 0, Layer::Line(LineCause::TextTooLong)));
+        return Err(Fault::new(source, 0, 0, LineCause::TextTooLong.into()));
     }
     Ok(())
 }

@@ -20,6 +20,7 @@ pub(crate) fn is_number(bytes: &[u8]) -> bool
 }
 
 /// What a decimal number says.
+// A loop over the bytes: `parse` takes a text, and would leave two errors to handle that cannot be.
 pub(crate) fn value_of(bytes: &[u8]) -> u32
     requires { IsNumber bytes.now }
     ensures { result ≡ value bytes.now }

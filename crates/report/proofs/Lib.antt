@@ -1,3 +1,2 @@
 -- The lemmas of this crate, by subject.
 mod Rows
-pub mod Quotes

@@ -11,13 +11,6 @@ overflow_mul-total c =
     let few : below_digits c.loop-b.b-index ≤ 10000 = few_digits _ (omega (arith, c.requires.few)) in
     omega (arith, c.loop-b.invariant.1)
 
-pub overflow_add-total : goal.overflow_add-total
-overflow_add-total c =
-    let lt : c.loop-b.b-index < length c.args.bytes.now = omega arith in
-    let few : below_digits c.loop-b.b-index ≤ 10000 = few_digits _ (omega (arith, c.requires.few)) in
-    let nine = digit_most c.args.bytes.now c.loop-b.b-index (c.requires.digits c.loop-b.b-index lt) in
-    omega (arith, c.loop-b.invariant.1)
-
 pub loop-b-preserved : goal.loop-b-preserved
 loop-b-preserved c =
     let lt : c.loop-b.b-index < length c.args.bytes.now = omega arith in

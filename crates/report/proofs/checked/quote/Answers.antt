@@ -1,8 +1,7 @@
--- Each turn makes one byte visible; at the end all that were copied are.
+-- Each turn makes one byte visible.
 use Rattle.std.proofs.Common.{◌∙◌, get_or, set, ap, arith}
 use Rattle.std.proofs.lemmas.List.{get_or_default}
 use Rattle.std.proofs.lemmas.List.Edits.{map_over_more}
-use Rattle.report.proofs.Quotes.{quote_done}
 use Rattle.report.specs.Printed.{visible}
 use Rattle.report.proofs.checked.quote.Goals as goal
 
@@ -11,7 +10,3 @@ loop-b-preserved c =
     let i = c.loop-b.b-index in
     ap (set c.loop-b.out i) c.visible_byte.ensures
     ∙ map_over_more visible _ c.loop-b.out i (get_or c.loop-b.out i 0) (omega arith) c.loop-b.invariant (get_or_default c.loop-b.out i 0 _ (omega arith))
-
-pub returns-clause-after : goal.returns-clause-after
-returns-clause-after c =
-    quote_done c.args.out.now c.args.bytes.now _ _ _ _ c.min-count.ensures c.copy_from_slice.ensures.after (omega arith) c.loop-b.invariant

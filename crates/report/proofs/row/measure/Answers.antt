@@ -9,9 +9,6 @@ passes : (xs : List (Bor (List ℕ))) (i n : ℕ) → i < length xs → n + leng
     → 2 ^ 64 ≤ n + length (field xs i) + 1 → 2 ^ 64 ≤ length (row (texts xs))
 passes xs i n h e k = omega (arith, length_ahead_more xs i h, spaced_le (texts xs))
 
-pub loop-field-preserved : goal.loop-field-preserved
-loop-field-preserved c = omega (arith, length_ahead_more c.args.fields.now c.loop-field.field-index c.loop-field-test.true)
-
 pub returns : goal.returns
 returns c = omega (arith, ap length (ahead_all c.args.fields.now c.loop-field.field-index c.loop-field-test.false), row_max (texts c.args.fields.now))
 

@@ -1,21 +1,13 @@
 -- Each turn writes one field and its space; the line feed goes over the last of them.
-use Rattle.std.proofs.Common.{◌≤◌, length, refl, zero-add, arith}
+use Rattle.std.proofs.Common.{◌≤◌, length, arith}
 use Rattle.report.specs.Rows.{texts, row}
-use Rattle.report.proofs.Rows.{row_some, ahead_more, length_ahead_more, ahead_all, room_ahead, put_front, put_back, printed}
+use Rattle.report.proofs.Rows.{ahead_more, length_ahead_more, ahead_all, room_ahead, put_front, put_back, printed}
 use Rattle.report.proofs.row.write_row.Goals as goal
-
-pub loop-field-init : goal.loop-field-init
-loop-field-init c = (refl, zero-add _, refl)
 
 pub put_field-requires : goal.put_field-requires
 put_field-requires c =
     let fits : length (row (texts c.args.fields.now)) ≤ length c.loop-field.out = omega arith in
     room_ahead _ _ _ _ c.loop-field-test.true c.loop-field.invariant.1 fits
-
-pub overflow_add-at-in-loop-field : goal.overflow_add-at-in-loop-field
-overflow_add-at-in-loop-field c =
-    let fits : length (row (texts c.args.fields.now)) ≤ length c.loop-field.out = omega arith in
-    omega (arith, room_ahead _ _ _ _ c.loop-field-test.true c.loop-field.invariant.1 fits)
 
 pub loop-field-preserved : goal.loop-field-preserved
 loop-field-preserved c =
@@ -26,12 +18,6 @@ loop-field-preserved c =
     let back = put_back _ _ _ _ _ room c.put_field.ensures.after c.loop-field.invariant.2 in
     let less = length_ahead_more c.args.fields.now c.loop-field.field-index c.loop-field-test.true in
     (front, omega arith, back)
-
-pub overflow_sub-out : goal.overflow_sub-out
-overflow_sub-out c = omega (arith, row_some (texts c.args.fields.now))
-
-pub bounds-out-len : goal.bounds-out-len
-bounds-out-len c = omega (arith, row_some (texts c.args.fields.now))
 
 pub returns : goal.returns
 returns c =
