@@ -1,5 +1,5 @@
 -- How a list is read and changed.
-use Rattle.std.proofs.Common.{◌≡◌, ℕ, zero, suc, ◌<◌, true, false, eqb, List, [], ◌∷◌, length, get_or, set, Ok, Err, sym, refl, ◌∙◌, le_of_suc-le-suc, not-suc-le-zero, arith}
+use Rattle.std.proofs.Common.{◌≡◌, ℕ, zero, suc, ◌<◌, true, false, eqb, List, [], ◌∷◌, length, get_or, set, Ok, Err, sym, refl, ◌∙◌, ap, subst, le_of_suc-le-suc, not-suc-le-zero, arith}
 use Rattle.std.specs.Prelude.{Option, Some, None, is_none, position}
 use Rattle.std.specs.Option.{option_or, option_map}
 use Rattle.std.proofs.lemmas.Bool.{cond-true, cond-false}
@@ -56,19 +56,21 @@ module _ {V : Type 0} where
 
   module _ (rs : List (Option (Listed V))) (x : ℕ) (v : V) where
     -- p is the symbol's row, and q the first that is free
-    pub put : (p q : Option ℕ) (i : ℕ) → p ≡ position (is_for x) rs → q ≡ position is_none rs → option_or p q ≡ Some i
-        → Putting rs x v (Ok tt) (set rs i (listed x v))
-    put None q i a b e = entered i (nowhere (is_for x) rs (sym a)) (first_at is_none rs i (sym b ∙ e)) refl refl
-    put (Some j) q i a b e = renewed i (first_at (is_for x) rs i (sym a ∙ e)) refl refl
+    pub put : (p q : Option ℕ) (i : ℕ) (r : Option (Listed V)) → p ≡ position (is_for x) rs → q ≡ position is_none rs → option_or p q ≡ Some i
+        → r ≡ listed x v → Putting rs x v (Ok tt) (set rs i r)
+    put None q i r a b e is = entered i (nowhere (is_for x) rs (sym a)) (first_at is_none rs i (sym b ∙ e)) refl (ap (set rs i) is)
+    put (Some j) q i r a b e is = renewed i (first_at (is_for x) rs i (sym a ∙ e)) refl (ap (set rs i) is)
 
-    pub put_value : (p q : Option ℕ) (i : ℕ) → p ≡ position (is_for x) rs → q ≡ position is_none rs → option_or p q ≡ Some i
-        → Revalued rs x v (set rs i (listed x v))
-    put_value None q i a b e =
+    pub put_value : (p q : Option ℕ) (i : ℕ) (r : Option (Listed V)) → p ≡ position (is_for x) rs → q ≡ position is_none rs → option_or p q ≡ Some i
+        → r ≡ listed x v → Revalued rs x v (set rs i r)
+    put_value None q i r a b e is =
         let f = first_at is_none rs i (sym b ∙ e) in
         let none = nowhere (is_for x) rs (sym a) in
         let lt = f.within in
-        given rs i x v None lt (λ k d h. none k d (omega arith)) (open_free x _ (f.here None))
-    put_value (Some j) q i a b e = let f = first_at (is_for x) rs i (sym a ∙ e) in given rs i x v None f.within f.before (open_listed x _ (f.here None))
+        subst (λ w. Revalued rs x v (set rs i w)) (sym is) (given rs i x v None lt (λ k d h. none k d (omega arith)) (open_free x _ (f.here None)))
+    put_value (Some j) q i r a b e is =
+        let f = first_at (is_for x) rs i (sym a ∙ e) in
+        subst (λ w. Revalued rs x v (set rs i w)) (sym is) (given rs i x v None f.within f.before (open_listed x _ (f.here None)))
 
     pub refused : (p q : Option ℕ) → p ≡ position (is_for x) rs → q ≡ position is_none rs → option_or p q ≡ None → Putting rs x v (Err ListFull) rs
     refused None q a b e = no_room (nowhere (is_for x) rs (sym a)) (nowhere is_none rs (sym b ∙ e)) refl refl

@@ -69,7 +69,8 @@ impl<V: Copy> List<V> {
     {
         let place = self.row_for(symbol).or(self.free_row());
         let i = place.ok_or(BookCause::ListFull)?;
-        self.rows[i] = Some(Listed { symbol, value });
+        // The one row that changes is lent.
+        self.rows[i].replace(Listed { symbol, value });
         Ok(())
     }
 }

@@ -38,6 +38,7 @@ pub trait PriceRule: Sized {
     fn is_below(&self, a: Self::Cost, b: Self::Cost) -> bool
         ensures { result ≡ below a b };
 
+    // The laws, which each rule proves for itself: a default here would have to hold of every rule.
     ghost fitting: { Fitting fits alone one two };
 
     ghost order: { Order below };

@@ -13,7 +13,7 @@ returns-in_err-i-clause-after g c =
     subst (λ a. Putting c.args.self.now.rows c.args.symbol c.args.value a c.args.self.now.rows) (sym e) r
 
 pub returns-clause-after : goal.returns-clause-after
-returns-clause-after g c = put c.args.self.now.rows c.args.symbol c.args.value c.row_for.result c.free_row.result c.in_ok-i.i c.row_for.ensures.first c.free_row.ensures (sym c.or-place.ensures ∙ c.ok_or.ensures.ok_part ∙ ap result_ok c.in_ok-i.was)
+returns-clause-after g c = put c.args.self.now.rows c.args.symbol c.args.value c.row_for.result c.free_row.result c.in_ok-i.i c.replace.new.self c.row_for.ensures.first c.free_row.ensures (sym c.or-place.ensures ∙ c.ok_or.ensures.ok_part ∙ ap result_ok c.in_ok-i.was) c.replace.ensures.after
 
 pub returns-clause-value : goal.returns-clause-value
-returns-clause-value g c = put_value c.args.self.now.rows c.args.symbol c.args.value c.row_for.result c.free_row.result c.in_ok-i.i c.row_for.ensures.first c.free_row.ensures (sym c.or-place.ensures ∙ c.ok_or.ensures.ok_part ∙ ap result_ok c.in_ok-i.was)
+returns-clause-value g c = put_value c.args.self.now.rows c.args.symbol c.args.value c.row_for.result c.free_row.result c.in_ok-i.i c.replace.new.self c.row_for.ensures.first c.free_row.ensures (sym c.or-place.ensures ∙ c.ok_or.ensures.ok_part ∙ ap result_ok c.in_ok-i.was) c.replace.ensures.after
