@@ -29,26 +29,26 @@ own_has (suc n) cl i h = go (λ k. own_has n cl i k) (ℕ_discrete i n)
 
 -- any classes are sound for equations that say as much
 module _ (t : Table) (cl : ℕ → ℕ) (a b : ℕ) where
-  es : NodePairs
-  es = (a, b) ∷ own (length t) cl
+  own_pairs : NodePairs
+  own_pairs = (a, b) ∷ own (length t) cl
 
-  given_equal : (i j : ℕ) → Memᴰ (i, j) es → Equal (equations t es) (build_at t i) (build_at t j)
+  given_equal : (i j : ℕ) → Memᴰ (i, j) own_pairs → Equal (equations t own_pairs) (build_at t i) (build_at t j)
   given_equal i j m = given (Memᴰ.map (λ (e : ℕ × ℕ). (build_at t e.0, build_at t e.1)) m)
 
-  to_class : (i : ℕ) → i < length t → Equal (equations t es) (build_at t i) (build_at t (cl i))
-  unfolding es
+  to_class : (i : ℕ) → i < length t → Equal (equations t own_pairs) (build_at t i) (build_at t (cl i))
+  unfolding own_pairs
   to_class i h = given_equal i (cl i) (Memᴰ.tail (own_has (length t) cl i h))
 
   merge_any : (to : ℕ → ℕ) → ((i : ℕ) → i < length t → EachPart (λ p. p < i) (shape_at t i)) → ((i : ℕ) → i < length t → (cl i ≤ i) × (cl (cl i) ≡ cl i))
-      → a < length t → b < length t → cl a < cl b → Merged (length t) cl to a b → Merge t cl to es a b
-  unfolding es
+      → a < length t → b < length t → cl a < cl b → Merged (length t) cl to a b → Merge t cl to own_pairs a b
+  unfolding own_pairs
   merge_any to low base h l less m =
-      closing.merge t cl to es
+      closing.merge t cl to own_pairs
       (record {
         lower = low;
         least = λ i k. (base i k).0;
         fixed = λ i k. (base i k).1;
-        sound = λ i j k k' e. joined (to_class i k) (subst (λ (c : ℕ). Equal (equations t es) (build_at t c) (build_at t j)) (sym e) (turned (to_class j k')));
+        sound = λ i j k k' e. joined (to_class i k) (subst (λ (c : ℕ). Equal (equations t own_pairs) (build_at t c) (build_at t j)) (sym e) (turned (to_class j k')));
       })
       a b h l less (given_equal a b (Memᴰ.head refl)) m
 
@@ -106,7 +106,7 @@ module _ (xs ys : List Row) (ds : List Bool) (n a b : ℕ) (fit : n ≤ length x
   merged : Merged (length (table bare xs n)) (class xs) (class ys) a b
   merged = subst (λ (k : ℕ). Merged k (class xs) (class ys) a b) (sym size) (merged_of xs ys n a b R)
 
-  M : Merge (table bare xs n) (class xs) (class ys) (es (table bare xs n) (class xs) a b) a b
+  M : Merge (table bare xs n) (class xs) (class ys) (own_pairs (table bare xs n) (class xs) a b) a b
   M = merge_any (table bare xs n) (class xs) a b (class ys) (lower bare xs n fit tidy) (λ i k. base i (omega (arith, size)))
       (omega (arith, size)) (omega (arith, size)) less merged
 
