@@ -1,5 +1,5 @@
 -- To make one class of two.
-use Rattle.std.proofs.Common.{◌≡◌, ℕ, zero, suc, ◌+◌, ◌<◌, ◌≤◌, Bool, true, false, ◌⊎◌, List, [], ◌∷◌, length, get_or, set, sym, refl, ap, ◌∙◌, subst, subst₂, inl, inr, not-suc-le-zero, arith, length-set}
+use Rattle.std.proofs.Common.{◌≡◌, ℕ, zero, suc, ◌+◌, ◌<◌, ◌≤◌, min, max, Bool, true, false, ◌≢◌, ◌⊎◌, List, [], ◌∷◌, length, get_or, set, sym, refl, ap, ◌∙◌, subst, subst₂, inl, inr, not-suc-le-zero, arith, length-set}
 use mathlib.Core.List.Memᴰ
 use mathlib.Core.List.{Memᴰ}
 use native.Mathlib.Decide.{ℕ_discrete}
@@ -210,3 +210,34 @@ step_turned n xs ys ds es a b S q =
       lighter = S.lighter;
       sound = λ ps P. S.sound ps P (q ps P);
     }
+
+-- to put the higher of two classes into the lower keeps the classes by their nodes
+module _ (xs ys : List Row) (n i j keep gone : ℕ) (base : Based xs n) (h : i < n) (l : j < n) (ne : class xs i ≢ class xs j)
+    (k : keep ≡ min (class xs i) (class xs j)) (g : gone ≡ max (class xs i) (class xs j)) (R : Relabelled xs ys n keep gone) where
+  kept_is : class xs keep ≡ keep
+  kept_is = elim (three (class xs i) (class xs j)) [
+    | inl e ↦ absurd (ne e)
+    | inr o ↦ elim o [
+      | inl q ↦ let e : keep ≡ class xs i = omega arith in ap (class xs) e ∙ (base i h).1 ∙ sym e
+      | inr q ↦ let e : keep ≡ class xs j = omega arith in ap (class xs) e ∙ (base j l).1 ∙ sym e
+    ]
+  ]
+
+  apart : keep < gone
+  apart = omega arith
+
+  stays_at : (c : ℕ) → c < n → class xs c ≡ c → c ≢ gone → class ys c ≡ c
+  stays_at c q e d = class_moved xs ys n keep gone c R q ∙ moved_other keep gone (class xs c) (λ r. d (sym e ∙ r)) ∙ e
+
+  pub join_based : Based ys n
+  join_based p q = go (ℕ_discrete (class xs p) gone)
+    where
+      go : Dec (class xs p ≡ gone) → (class ys p ≤ p) × (class ys (class ys p) ≡ class ys p)
+      go (yes e) =
+          let b = base p q in
+          let m : class ys p ≡ keep = class_moved xs ys n keep gone p R q ∙ moved_gone keep gone (class xs p) e in
+          (omega (arith, apart, b.0), ap (class ys) m ∙ stays_at keep (omega (arith, apart, b.0)) kept_is (λ r. omega (arith, apart)) ∙ sym m)
+      go (no e) =
+          let b = base p q in
+          let m : class ys p ≡ class xs p = class_moved xs ys n keep gone p R q ∙ moved_other keep gone (class xs p) e in
+          (omega (arith, b.0), ap (class ys) m ∙ stays_at (class xs p) (omega (arith, b.0)) b.1 e ∙ sym m)
