@@ -1,6 +1,5 @@
 -- An equation more in the rows is an equation more in the state.
 use Rattle.std.proofs.Common.{◌≡◌, ℕ, ◌+◌, ◌-◌, ◌<◌, ◌≤◌, min, Bool, false, cond, List, [], ◌++◌, map, length, take, drop, sym, refl, ap, ◌∙◌, subst, inl, inr, arith, length-set}
-use native.Mathlib.Decide.{ℕ_discrete}
 use Rattle.std.proofs.lemmas.List.{get_or-set_same, get_or-set_other, get_or-take, length-take-le}
 use Rattle.theory.specs.Books.{with_equation as equation_more}
 use Rattle.theory.specs.Calls.{Answer, granted, refused, Both, Equating, Equating.full, Equating.accepted}
@@ -14,7 +13,7 @@ use Rattle.book.specs.Changes.{Equated}
 use Rattle.book.proofs.Columns.{same_column, more_column}
 use Rattle.book.proofs.Accepting.{either, accepted_unpriced, reset_of, sound_equated}
 use Rattle.book.proofs.Behind.{row_front, unchosen_behind, accepted_behind}
-use Rattle.book.proofs.Cores.{stored_core, core_tidy, core_based, core_level}
+use Rattle.book.proofs.Cores.{set_field, stored_core, core_tidy, core_based, core_level}
 use Rattle.book.proofs.Front.{tidy_below, based_below, level_below}
 use Rattle.book.proofs.States.{nodes_long, equated_long}
 use Rattle.book.proofs.Booked.{book_of, laid_of}
@@ -43,15 +42,7 @@ module _ (s t : Contents) (K : Sound s) (a b : ℕ) (E : Equated s t a b) (space
   -- nor the equation
   field : {X : Type 0} (f : Row → X) → ((r : Row) (c : ℕ) → f (with_choice (with_class r c) 0) ≡ f r) → ((r : Row) → f (with_equation r a b) ≡ f r)
       → (i : ℕ) → f (row t.rows i) ≡ f (row s.rows i)
-  field f g h i = reset_field f g i ∙ go (ℕ_discrete i s.equations)
-    where
-      go : Dec (i ≡ s.equations) → f (row (stored s.rows s.equations a b) i) ≡ f (row s.rows i)
-      go (no e) = ap f (other i e)
-      go (yes e) =
-          ap (λ (m : ℕ). f (row (stored s.rows s.equations a b) m)) e
-          ∙ ap f here
-          ∙ h (row s.rows s.equations)
-          ∙ sym (ap (λ (m : ℕ). f (row s.rows m)) e)
+  field f g h i = reset_field f g i ∙ set_field f s.rows s.equations new_row (h (row s.rows s.equations)) i
 
   column_same : {X : Type 0} (f : Row → X) → ((r : Row) (c : ℕ) → f (with_choice (with_class r c) 0) ≡ f r) → ((r : Row) → f (with_equation r a b) ≡ f r)
       → (n m : ℕ) → m ≡ n → n ≤ length s.rows → map f (take m t.rows) ≡ map f (take n s.rows)

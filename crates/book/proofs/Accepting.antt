@@ -2,20 +2,20 @@
 use Rattle.std.proofs.Common.{◌≡◌, ℕ, ◌+◌, ◌<◌, ◌≤◌, Bool, false, ◌≢◌, ◌⊎◌, List, length, sym, refl, ap, ◌∙◌, subst, subst₂, inl, inr, true≢false, arith, length-set}
 use mathlib.Core.List.{Memᴰ}
 use native.Mathlib.Decide.{ℕ_discrete}
-use Rattle.std.proofs.lemmas.List.{get_or-set_same, get_or-set_other, set_past}
-use Rattle.theory.specs.Names.{IsName}
+use Rattle.std.proofs.lemmas.List.{get_or-set_same, get_or-set_other}
 use Rattle.theory.specs.Equality.{Equal}
 use Rattle.theory.specs.Tables.{Table, build_at, equations}
 use Rattle.theory.specs.Steps.{Partway}
 use Rattle.book.specs.declared.row.Row.{Row}
 use Rattle.book.specs.declared.row.Node.{Node}
 use Rattle.book.specs.declared.row.Equation.{Equation}
-use Rattle.book.specs.Rows.{absent, trimmed, row, class, shape, shape_of, bare, table, pairs_in, with_equation, with_class, with_choice, stored, Unchosen}
+use Rattle.book.specs.Rows.{absent, row, class, shape, shape_of, bare, table, pairs_in, with_equation, with_class, with_choice, stored, Unchosen}
 use Rattle.book.specs.Closing.{Accepted}
 use Rattle.book.specs.Layout.{Contents, room}
-use Rattle.book.specs.Invariant.{Sound, Padded, Obeys, Follows, Unpriced}
+use Rattle.book.specs.Invariant.{Sound, Obeys, Follows, Unpriced}
 use Rattle.book.specs.Changes.{Reset}
-use Rattle.book.proofs.Cores.{core, stored_core, core_tidy, core_based, core_level, core_table, core_class}
+use Rattle.book.proofs.Same.{spelt_same, named_same}
+use Rattle.book.proofs.Cores.{core, set_field, stored_core, core_tidy, core_based, core_level, core_table, core_class}
 use Rattle.book.proofs.Sweeps.{tidy_still}
 use Rattle.book.proofs.Merging.{three}
 use Rattle.book.proofs.Tables.{same_table, table_long}
@@ -27,22 +27,12 @@ either i n = elim (three i n) [ inl e ↦ inr (omega arith) | inr o ↦ elim o [
 pub unchosen_core : (xs ys : List Row) (n : ℕ) → Unchosen xs ys n → (i : ℕ) → core (row ys i) ≡ core (row xs i)
 unchosen_core xs ys n U i = elim (either i n) [ inl h ↦ ap core (U.within i h) | inr h ↦ ap core (U.past i h) ]
 
--- where no choice is left, none is taken
-pub unchosen_already : (xs : List Row) (n : ℕ) → ((i : ℕ) → i < n → (row xs i).node.choice ≡ 0) → Unchosen xs xs n
-unchosen_already xs n f = record { long = refl; within = λ i h. ap (with_choice (row xs i)) (f i h); past = λ i h. refl }
-
 -- an equation makes no choice
 pub accepted_unpriced : (xs ys : List Row) (n k a b : ℕ) (v : Bool) → Accepted (stored xs k a b) ys n a b → Unpriced xs n v → Unpriced ys n v
 accepted_unpriced xs ys n k a b v A U q i h =
-    ap (λ (r : Row). r.node.choice) (A.only.within i h) ∙ go (ℕ_discrete i k) (either k (length xs)) ∙ U q i h
-  where
-    go : Dec (i ≡ k) → (k < length xs) ⊎ (length xs ≤ k) → (row (stored xs k a b) i).node.choice ≡ (row xs i).node.choice
-    go (no e) o = ap (λ (r : Row). r.node.choice) (get_or-set_other xs k i (with_equation (row xs k) a b) absent e)
-    go (yes e) (inr l) = ap (λ (zs : List Row). (row zs i).node.choice) (set_past xs k (with_equation (row xs k) a b) l)
-    go (yes e) (inl l) =
-        ap (λ (m : ℕ). (row (stored xs k a b) m).node.choice) e
-        ∙ ap (λ (r : Row). r.node.choice) (get_or-set_same xs k (with_equation (row xs k) a b) absent l)
-        ∙ sym (ap (λ (m : ℕ). (row xs m).node.choice) e)
+    ap (λ (r : Row). r.node.choice) (A.only.within i h)
+    ∙ set_field (λ (r : Row). r.node.choice) xs k (with_equation (row xs k) a b) refl i
+    ∙ U q i h
 
 -- what is stored in a row but for its class and its choice
 abbrev still : Row → Row
@@ -159,27 +149,14 @@ module _ (s : Contents) (K : Sound s) (a b : ℕ) (ys zs : List Row) (at_a : a <
           )
 
   whole_node : (i : ℕ) → s.nodes ≤ i → (row zs i).node ≡ (row s.rows i).node
-  whole_node i h = ap (λ (r : Row). r.node) (reset.past i h) ∙ stored_node i
-    where
-      stored_node : (i : ℕ) → (row (stored s.rows s.equations a b) i).node ≡ (row s.rows i).node
-      stored_node i = go (ℕ_discrete i s.equations)
-        where
-          go : Dec (i ≡ s.equations) → (row (stored s.rows s.equations a b) i).node ≡ (row s.rows i).node
-          go (yes e) =
-              ap (λ (m : ℕ). (row (stored s.rows s.equations a b) m).node) e
-              ∙ ap (λ (r : Row). r.node) (get_or-set_same s.rows s.equations (with_equation (row s.rows s.equations) a b) absent (omega arith))
-              ∙ sym (ap (λ (m : ℕ). (row s.rows m).node) e)
-          go (no e) = ap (λ (r : Row). r.node) (get_or-set_other s.rows s.equations i (with_equation (row s.rows s.equations) a b) absent e)
+  whole_node i h =
+      ap (λ (r : Row). r.node) (reset.past i h)
+      ∙ set_field (λ (r : Row). r.node) s.rows s.equations (with_equation (row s.rows s.equations) a b) refl i
 
   same_name : (i : ℕ) → (row zs i).name ≡ (row s.rows i).name
-  same_name i = ap (λ (r : Row). r.name) (same_still i) ∙ go (ℕ_discrete i s.equations)
-    where
-      go : Dec (i ≡ s.equations) → (row (stored s.rows s.equations a b) i).name ≡ (row s.rows i).name
-      go (yes e) =
-          ap (λ (m : ℕ). (row (stored s.rows s.equations a b) m).name) e
-          ∙ ap (λ (r : Row). r.name) (get_or-set_same s.rows s.equations (with_equation (row s.rows s.equations) a b) absent (omega arith))
-          ∙ sym (ap (λ (m : ℕ). (row s.rows m).name) e)
-      go (no e) = ap (λ (r : Row). r.name) (get_or-set_other s.rows s.equations i (with_equation (row s.rows s.equations) a b) absent e)
+  same_name i =
+      ap (λ (r : Row). r.name) (same_still i)
+      ∙ set_field (λ (r : Row). r.name) s.rows s.equations (with_equation (row s.rows s.equations) a b) refl i
 
   pub sound_equated : Sound (record { rows = zs; names = s.names; nodes = s.nodes; equations = s.equations + 1; priced = false })
   sound_equated =
@@ -189,8 +166,8 @@ module _ (s : Contents) (K : Sound s) (a b : ℕ) (ys zs : List Row) (at_a : a <
         equations_fit = (fit', omega arith);
         tidy = core_tidy ys zs s.nodes (unchosen_core ys zs s.nodes U)
             (tidy_still s.nodes (stored s.rows s.equations a b) ys A.only (core_tidy s.rows (stored s.rows s.equations a b) s.nodes (stored_core s.rows s.equations a b) K.tidy));
-        spelt = λ i h. subst (λ (b : List ℕ). IsName (trimmed b) × Padded b (trimmed b)) (sym (same_name i)) (K.spelt i h);
-        named = λ i j h l e. K.named i j h l (sym (ap trimmed (same_name i)) ∙ e ∙ ap trimmed (same_name j));
+        spelt = spelt_same s K zs same_name;
+        named = named_same s K zs same_name;
         known = λ i h. subst (λ (x : Node). x.symbol < s.names) (sym (same_node i)) (K.known i h);
         distinct = λ i j h l e. K.distinct i j h l (sym (same_shape i) ∙ e ∙ same_shape j);
         based = core_based ys zs s.nodes (unchosen_core ys zs s.nodes U) A.based;

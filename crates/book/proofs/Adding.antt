@@ -3,7 +3,6 @@ use Rattle.std.proofs.Common.{◌≡◌, ℕ, ◌+◌, ◌<◌, ◌≤◌, false
 use mathlib.Core.List.{Memᴰ}
 use native.Mathlib.Decide.{ℕ_discrete}
 use Rattle.std.proofs.lemmas.List.{get_or-set_same, get_or-set_other}
-use Rattle.theory.specs.Names.{IsName}
 use Rattle.theory.specs.Builds.{Build}
 use Rattle.theory.specs.Equality.{Equal, same}
 use Rattle.theory.specs.Tables.{Table, NodePairs, build_at, equations, map_parts}
@@ -12,16 +11,18 @@ use Rattle.theory.proofs.Closing.{closing}
 use Rattle.theory.proofs.Tables.{each_map}
 use Rattle.book.specs.declared.row.Row.{Row}
 use Rattle.book.specs.declared.row.Node.{Node}
-use Rattle.book.specs.Rows.{absent, trimmed, row, class, shape, shape_of, sign, bare, table, pairs_in, with_class, with_choice, TidyNode, Tidy, Based, Unchosen}
+use Rattle.book.specs.Rows.{absent, row, class, shape, shape_of, sign, bare, table, pairs_in, with_class, with_choice, TidyNode, Tidy, Based, Unchosen}
 use Rattle.book.specs.Closing.{Level}
 use Rattle.book.specs.Entering.{raw_of, with_node, placed, Put}
 use Rattle.book.specs.Layout.{Contents, room}
-use Rattle.book.specs.Invariant.{Sound, Padded, Distinct, Obeys, Follows}
+use Rattle.book.specs.Invariant.{Sound, Distinct, Obeys, Follows}
 use Rattle.book.proofs.Tables.{same_table, table_long, table_at, lower, node_lower, part_map_same}
 use Rattle.book.proofs.Signs.{to_agree, bare_one}
 use Rattle.book.proofs.Cores.{core, core_based, core_level, core_class}
 use Rattle.book.proofs.Merging.{three}
 use Rattle.book.proofs.Pairs.{pairs_of, same_pairs, partway_of, builds_agree, eq_agree}
+use Rattle.book.proofs.Front.{sign_below}
+use Rattle.book.proofs.Same.{spelt_same, named_same}
 use Rattle.book.proofs.Accepting.{unchosen_core}
 
 -- below n, or n
@@ -54,9 +55,6 @@ module _ (xs : List Row) (n : ℕ) (x : Node) (fit : n < length xs) where
 
   -- what `put` leaves
   module _ (ys : List Row) (P : Put xs ys n x) where
-    vs : List Row
-    vs = placed xs n x
-
     vs_long : length (placed xs n x) ≡ length xs
     vs_long = length-set xs n (with_node (row xs n) x)
 
@@ -233,10 +231,7 @@ module _ (s : Contents) (K : Sound s) (x : Node) (tx : TidyNode s.nodes x) (kx :
 
   sign_old : (i : ℕ) → i < s.nodes → sign ws i ≡ sign s.rows i
   unfolding ws
-  sign_old i h =
-      ap (λ (r : Row). map_parts (class ws) (shape_of bare r.node)) (old s.rows s.nodes x fit i (omega arith))
-      ∙ part_map_same (class ws) (class s.rows) (shape s.rows i)
-      (each_map (λ p. p < i) (λ p. class ws p ≡ class s.rows p) (λ p m. class_ws p (omega arith)) (shape s.rows i) (node_lower bare i (row s.rows i).node (K.tidy i h)))
+  sign_old i h = sign_below s.rows ws s.nodes (λ p l. old s.rows s.nodes x fit p (omega arith)) K.tidy i h
 
   class_ys : (p : ℕ) → p < s.nodes → class ys p ≡ class s.rows p
   class_ys p h = class_old s.rows s.nodes x fit ys P p h
@@ -373,8 +368,8 @@ module _ (s : Contents) (K : Sound s) (x : Node) (tx : TidyNode s.nodes x) (kx :
         nodes_fit = (fit_zs, omega arith);
         equations_fit = (omega (arith, K.equations_fit.0, long), K.equations_fit.1);
         tidy = tidy_zs;
-        spelt = λ i h. subst (λ (b : List ℕ). IsName (trimmed b) × Padded b (trimmed b)) (sym (ap (λ (r : Row). r.name) (rest i))) (K.spelt i h);
-        named = λ i j h l e. K.named i j h l (sym (ap (λ (r : Row). trimmed r.name) (rest i)) ∙ e ∙ ap (λ (r : Row). trimmed r.name) (rest j));
+        spelt = spelt_same s K zs (λ i. ap (λ (r : Row). r.name) (rest i));
+        named = named_same s K zs (λ i. ap (λ (r : Row). r.name) (rest i));
         known = λ i h. elim (last i s.nodes h) [
           | inl l ↦ subst (λ (r : Row). r.node.symbol < s.names) (sym (row_old i l)) (K.known i l)
           | inr e ↦ subst (λ (k : ℕ). (row zs k).node.symbol < s.names) (sym e) (subst (λ (r : Row). r.node.symbol < s.names) (sym row_new) kx)

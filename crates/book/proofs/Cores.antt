@@ -23,20 +23,21 @@ core r =
       choice = 0;
     }
 
-pub set_core : (xs : List Row) (k : ℕ) (r : Row) → core r ≡ core (row xs k) → (i : ℕ) → core (row (set xs k r) i) ≡ core (row xs i)
-set_core xs k r e i = go (ℕ_discrete i k) (three k (length xs))
+-- what a stored row has as the row before had it
+pub set_field : {X : Type 0} (f : Row → X) (xs : List Row) (k : ℕ) (r : Row) → f r ≡ f (row xs k) → (i : ℕ) → f (row (set xs k r) i) ≡ f (row xs i)
+set_field {X} f xs k r e i = go (ℕ_discrete i k) (three k (length xs))
   where
-    past : length xs ≤ k → core (row (set xs k r) i) ≡ core (row xs i)
-    past l = ap (λ (zs : List Row). core (row zs i)) (set_past xs k r l)
+    past : length xs ≤ k → f (row (set xs k r) i) ≡ f (row xs i)
+    past l = ap (λ (zs : List Row). f (row zs i)) (set_past xs k r l)
 
-    go : Dec (i ≡ k) → (k ≡ length xs) ⊎ ((k < length xs) ⊎ (length xs < k)) → core (row (set xs k r) i) ≡ core (row xs i)
-    go (no q) o = ap core (get_or-set_other xs k i r absent q)
+    go : Dec (i ≡ k) → (k ≡ length xs) ⊎ ((k < length xs) ⊎ (length xs < k)) → f (row (set xs k r) i) ≡ f (row xs i)
+    go (no q) o = ap f (get_or-set_other xs k i r absent q)
     go (yes q) (inl l) = past (omega arith)
-    go (yes q) (inr (inl l)) = ap (λ (n : ℕ). core (row (set xs k r) n)) q ∙ ap core (get_or-set_same xs k r absent l) ∙ e ∙ sym (ap (λ (n : ℕ). core (row xs n)) q)
+    go (yes q) (inr (inl l)) = ap (λ (n : ℕ). f (row (set xs k r) n)) q ∙ ap f (get_or-set_same xs k r absent l) ∙ e ∙ sym (ap (λ (n : ℕ). f (row xs n)) q)
     go (yes q) (inr (inr l)) = past (omega arith)
 
 pub stored_core : (xs : List Row) (k a b : ℕ) (i : ℕ) → core (row (stored xs k a b) i) ≡ core (row xs i)
-stored_core xs k a b = set_core xs k (with_equation (row xs k) a b) refl
+stored_core xs k a b = set_field core xs k (with_equation (row xs k) a b) refl
 
 module _ (xs ys : List Row) where
   pub core_class : ((i : ℕ) → core (row ys i) ≡ core (row xs i)) → class ys ≡ class xs

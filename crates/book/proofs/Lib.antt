@@ -10,6 +10,7 @@ pub mod Cores
 pub mod Sweeps
 pub mod Behind
 pub mod Pairs
+pub mod Same
 pub mod Accepting
 pub mod Adding
 pub mod Asked

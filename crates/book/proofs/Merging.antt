@@ -1,5 +1,5 @@
 -- To make one class of two.
-use Rattle.std.proofs.Common.{◌≡◌, ℕ, zero, suc, ◌+◌, ◌<◌, ◌≤◌, Bool, true, false, ◌⊎◌, List, [], ◌∷◌, length, get_or, set, sym, refl, ap, ◌∙◌, subst, subst₂, inl, inr, not-suc-le-zero, arith, length-set}
+use Rattle.std.proofs.Common.{◌≡◌, ℕ, zero, suc, ◌+◌, ◌<◌, ◌≤◌, min, max, Bool, true, false, ◌≢◌, ◌⊎◌, List, [], ◌∷◌, length, get_or, set, sym, refl, ap, ◌∙◌, subst, subst₂, inl, inr, not-suc-le-zero, arith, length-set}
 use mathlib.Core.List.Memᴰ
 use mathlib.Core.List.{Memᴰ}
 use native.Mathlib.Decide.{ℕ_discrete}
@@ -29,26 +29,26 @@ own_has (suc n) cl i h = go (λ k. own_has n cl i k) (ℕ_discrete i n)
 
 -- any classes are sound for equations that say as much
 module _ (t : Table) (cl : ℕ → ℕ) (a b : ℕ) where
-  es : NodePairs
-  es = (a, b) ∷ own (length t) cl
+  own_pairs : NodePairs
+  own_pairs = (a, b) ∷ own (length t) cl
 
-  given_equal : (i j : ℕ) → Memᴰ (i, j) es → Equal (equations t es) (build_at t i) (build_at t j)
+  given_equal : (i j : ℕ) → Memᴰ (i, j) own_pairs → Equal (equations t own_pairs) (build_at t i) (build_at t j)
   given_equal i j m = given (Memᴰ.map (λ (e : ℕ × ℕ). (build_at t e.0, build_at t e.1)) m)
 
-  to_class : (i : ℕ) → i < length t → Equal (equations t es) (build_at t i) (build_at t (cl i))
-  unfolding es
+  to_class : (i : ℕ) → i < length t → Equal (equations t own_pairs) (build_at t i) (build_at t (cl i))
+  unfolding own_pairs
   to_class i h = given_equal i (cl i) (Memᴰ.tail (own_has (length t) cl i h))
 
   merge_any : (to : ℕ → ℕ) → ((i : ℕ) → i < length t → EachPart (λ p. p < i) (shape_at t i)) → ((i : ℕ) → i < length t → (cl i ≤ i) × (cl (cl i) ≡ cl i))
-      → a < length t → b < length t → cl a < cl b → Merged (length t) cl to a b → Merge t cl to es a b
-  unfolding es
+      → a < length t → b < length t → cl a < cl b → Merged (length t) cl to a b → Merge t cl to own_pairs a b
+  unfolding own_pairs
   merge_any to low base h l less m =
-      closing.merge t cl to es
+      closing.merge t cl to own_pairs
       (record {
         lower = low;
         least = λ i k. (base i k).0;
         fixed = λ i k. (base i k).1;
-        sound = λ i j k k' e. joined (to_class i k) (subst (λ (c : ℕ). Equal (equations t es) (build_at t c) (build_at t j)) (sym e) (turned (to_class j k')));
+        sound = λ i j k k' e. joined (to_class i k) (subst (λ (c : ℕ). Equal (equations t own_pairs) (build_at t c) (build_at t j)) (sym e) (turned (to_class j k')));
       })
       a b h l less (given_equal a b (Memᴰ.head refl)) m
 
@@ -106,7 +106,7 @@ module _ (xs ys : List Row) (ds : List Bool) (n a b : ℕ) (fit : n ≤ length x
   merged : Merged (length (table bare xs n)) (class xs) (class ys) a b
   merged = subst (λ (k : ℕ). Merged k (class xs) (class ys) a b) (sym size) (merged_of xs ys n a b R)
 
-  M : Merge (table bare xs n) (class xs) (class ys) (es (table bare xs n) (class xs) a b) a b
+  M : Merge (table bare xs n) (class xs) (class ys) (own_pairs (table bare xs n) (class xs) a b) a b
   M = merge_any (table bare xs n) (class xs) a b (class ys) (lower bare xs n fit tidy) (λ i k. base i (omega (arith, size)))
       (omega (arith, size)) (omega (arith, size)) less merged
 
@@ -210,3 +210,34 @@ step_turned n xs ys ds es a b S q =
       lighter = S.lighter;
       sound = λ ps P. S.sound ps P (q ps P);
     }
+
+-- to put the higher of two classes into the lower keeps the classes by their nodes
+module _ (xs ys : List Row) (n i j keep gone : ℕ) (base : Based xs n) (h : i < n) (l : j < n) (ne : class xs i ≢ class xs j)
+    (k : keep ≡ min (class xs i) (class xs j)) (g : gone ≡ max (class xs i) (class xs j)) (R : Relabelled xs ys n keep gone) where
+  kept_is : class xs keep ≡ keep
+  kept_is = elim (three (class xs i) (class xs j)) [
+    | inl e ↦ absurd (ne e)
+    | inr o ↦ elim o [
+      | inl q ↦ let e : keep ≡ class xs i = omega arith in ap (class xs) e ∙ (base i h).1 ∙ sym e
+      | inr q ↦ let e : keep ≡ class xs j = omega arith in ap (class xs) e ∙ (base j l).1 ∙ sym e
+    ]
+  ]
+
+  apart : keep < gone
+  apart = omega arith
+
+  stays_at : (c : ℕ) → c < n → class xs c ≡ c → c ≢ gone → class ys c ≡ c
+  stays_at c q e d = class_moved xs ys n keep gone c R q ∙ moved_other keep gone (class xs c) (λ r. d (sym e ∙ r)) ∙ e
+
+  pub join_based : Based ys n
+  join_based p q = go (ℕ_discrete (class xs p) gone)
+    where
+      go : Dec (class xs p ≡ gone) → (class ys p ≤ p) × (class ys (class ys p) ≡ class ys p)
+      go (yes e) =
+          let b = base p q in
+          let m : class ys p ≡ keep = class_moved xs ys n keep gone p R q ∙ moved_gone keep gone (class xs p) e in
+          (omega (arith, apart, b.0), ap (class ys) m ∙ stays_at keep (omega (arith, apart, b.0)) kept_is (λ r. omega (arith, apart)) ∙ sym m)
+      go (no e) =
+          let b = base p q in
+          let m : class ys p ≡ class xs p = class_moved xs ys n keep gone p R q ∙ moved_other keep gone (class xs p) e in
+          (omega (arith, b.0), ap (class ys) m ∙ stays_at (class xs p) (omega (arith, b.0)) b.1 e ∙ sym m)

@@ -1,22 +1,18 @@
 -- Choices of the stages stored in the rows: the book stays sound, and its state has them.
-use Rattle.std.proofs.Common.{◌≡◌, ℕ, ◌+◌, ◌-◌, ◌<◌, ◌≤◌, min, true, List, map, length, get_or, take, sym, refl, ap, ◌∙◌, subst, subst₂, inl, inr, true≢false, arith}
+use Rattle.std.proofs.Common.{◌≡◌, ℕ, ◌+◌, ◌-◌, ◌<◌, ◌≤◌, min, true, List, map, length, get_or, take, sym, refl, ap, ◌∙◌, subst, inl, inr, true≢false, arith}
 use Rattle.std.proofs.lemmas.List.{ext_get_or}
-use Rattle.theory.specs.Names.{IsName}
-use Rattle.theory.specs.Equality.{Equal}
-use Rattle.theory.specs.Tables.{Table, NodePairs, build_at, equations}
 use Rattle.theory.specs.Costs.{Cheaper, LawfulOrder}
 use Rattle.theory.specs.Books.{Chosen, with_choices}
 use Rattle.theory.proofs.Books.{same_state}
 use Rattle.book.specs.declared.row.Row.{Row}
-use Rattle.book.specs.declared.row.Node.{Node}
-use Rattle.book.specs.Rows.{row, class, trimmed, bare, shape_of, with_choice}
+use Rattle.book.specs.Rows.{row, trimmed, with_choice}
 use Rattle.book.specs.Layout.{Contents, entry_of, state_of, Relaid}
-use Rattle.book.specs.Invariant.{Sound, Padded}
+use Rattle.book.specs.Invariant.{Sound}
 use Rattle.book.specs.Changes.{Repriced}
 use Rattle.book.specs.Held.{Kept}
 use Rattle.book.proofs.Columns.{column_long, column_at, same_column}
-use Rattle.book.proofs.Cores.{core, core_tidy, core_based, core_level, core_table, core_class}
-use Rattle.book.proofs.Pairs.{same_pairs}
+use Rattle.book.proofs.Cores.{core, core_tidy, core_based, core_level}
+use Rattle.book.proofs.Same.{spelt_same, named_same, known_same, distinct_same, obeys_same, follows_same}
 use Rattle.book.proofs.Accepting.{either}
 use Rattle.book.proofs.States.{nodes_long}
 use Rattle.book.proofs.Booked.{laid_of, kept_of}
@@ -35,9 +31,6 @@ module _ (s t : Contents) (K : Sound s) (cs : List ℕ) (z : length cs ≡ s.nod
   names_stay : (i : ℕ) → (row t.rows i).name ≡ (row s.rows i).name
   names_stay i = ap (λ (r : Row). r.name) (rest i)
 
-  same_class : class t.rows ≡ class s.rows
-  same_class = core_class s.rows t.rows cores
-
   fits : (n : ℕ) → n ≤ length s.rows → n ≤ length t.rows
   fits n h = omega (arith, R.long)
 
@@ -52,8 +45,8 @@ module _ (s t : Contents) (K : Sound s) (cs : List ℕ) (z : length cs ≡ s.nod
   is_after =
       λ i. record { rows = t.rows; names = R.names i; nodes = R.nodes i; equations = R.equations i; priced = R.priced i }
 
-  abbrev Side : ℕ × ℕ → Type 0
-  Side e = (e.0 < s.nodes) × (e.1 < s.nodes) × (class t.rows e.0 ≡ class t.rows e.1)
+  said : (i : ℕ) → (row t.rows i).equation ≡ (row s.rows i).equation
+  said i = ap (λ (r : Row). r.equation) (rest i)
 
   sound_after : Sound after
   sound_after =
@@ -62,27 +55,14 @@ module _ (s t : Contents) (K : Sound s) (cs : List ℕ) (z : length cs ≡ s.nod
         nodes_fit = (fits s.nodes K.nodes_fit.0, K.nodes_fit.1);
         equations_fit = (fits s.equations K.equations_fit.0, K.equations_fit.1);
         tidy = core_tidy s.rows t.rows s.nodes cores K.tidy;
-        spelt = λ i h. subst (λ (b : List ℕ). IsName (trimmed b) × Padded b (trimmed b)) (sym (names_stay i)) (K.spelt i h);
-        named = λ i j h l e. K.named i j h l (sym (ap trimmed (names_stay i)) ∙ e ∙ ap trimmed (names_stay j));
-        known = λ i h. let e = ap (λ (x : Node). x.symbol) (cores i) in omega (arith, K.known i h);
-        distinct = λ i j h l e. K.distinct i j h l (sym (ap (shape_of bare) (cores i)) ∙ e ∙ ap (shape_of bare) (cores j));
+        spelt = spelt_same s K t.rows names_stay;
+        named = named_same s K t.rows names_stay;
+        known = known_same s K t.rows R.long cores said;
+        distinct = distinct_same s K t.rows R.long cores said;
         based = core_based s.rows t.rows s.nodes cores K.based;
         level = core_level s.rows t.rows s.nodes cores K.level;
-        obeys = λ i h.
-            let o = K.obeys i h in
-            subst Side (sym (ap (λ (r : Row). (r.equation.left, r.equation.right)) (rest i))) (
-              o.0,
-              o.1,
-              ap (λ (f : ℕ → ℕ). f (row s.rows i).equation.left) same_class
-                  ∙ o.2
-                  ∙ sym (ap (λ (f : ℕ → ℕ). f (row s.rows i).equation.right) same_class),
-            );
-        follows = λ i j h l e.
-            subst₂ (λ (T : Table) (ps : NodePairs). Equal (equations T ps) (build_at T i) (build_at T j))
-            (sym (core_table s.rows t.rows s.nodes K.nodes_fit.0 (fits s.nodes K.nodes_fit.0) cores))
-            (sym (same_pairs s.rows t.rows s.equations K.equations_fit.0 (fits s.equations K.equations_fit.0)
-            (λ m q. ap (λ (r : Row). (r.equation.left, r.equation.right)) (rest m))))
-            (K.follows i j h l (sym (ap (λ (f : ℕ → ℕ). f i) same_class) ∙ e ∙ ap (λ (f : ℕ → ℕ). f j) same_class));
+        obeys = obeys_same s K t.rows R.long cores said;
+        follows = follows_same s K t.rows R.long cores said;
         blank = λ i h l.
             let B = K.blank i (omega (arith, R.long)) l in (
               λ q. names_stay i ∙ B.0 q,

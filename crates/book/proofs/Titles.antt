@@ -1,28 +1,21 @@
 -- Names of symbols: how they are padded and found, and that a book stays a book when one is added.
-use Rattle.std.proofs.Common.{◌≡◌, ℕ, zero, suc, ◌+◌, ◌<◌, ◌≤◌, true, false, ◌≢◌, List, [], ◌∷◌, length, get_or, set, take, Some, None, position, sym, refl, ap, ◌∙◌, subst, ap₂, subst₂, inl, inr, le_of_suc-le-suc, not-suc-le-zero, arith, length-set}
+use Rattle.std.proofs.Common.{◌≡◌, ℕ, zero, suc, ◌+◌, ◌<◌, ◌≤◌, true≢false, ◌≢◌, List, [], ◌∷◌, length, get_or, set, take, Some, None, position, sym, refl, ap, ◌∙◌, subst, ap₂, subst₂, inl, inr, le_of_suc-le-suc, not-suc-le-zero, arith, length-set}
 use Rattle.std.specs.Str.{bytes_eq}
 use Rattle.std.proofs.lemmas.Slice.Eq.{bytes_eq-Decides}
-use native.Mathlib.Decide.{ℕ_discrete}
 use Rattle.std.proofs.lemmas.List.{get_or-set_same, get_or-set_other, ext_get_or}
 use Rattle.theory.specs.Names.{Name, name_byte, IsName}
-use Rattle.theory.specs.Equality.{Equal}
-use Rattle.theory.specs.Tables.{Table, NodePairs, build_at, equations}
 use Rattle.book.specs.declared.row.Row.{Row}
-use Rattle.book.specs.declared.row.Node.{Node}
-use Rattle.book.specs.Rows.{absent, trimmed, name_of, row, class, bare, shape_of}
+use Rattle.book.specs.Rows.{absent, trimmed, name_of, row}
 use Rattle.book.specs.Layout.{Contents, room}
 use Rattle.book.specs.Invariant.{Sound, Padded}
 use Rattle.book.specs.Changes.{with_name, Titled}
-use Rattle.book.proofs.Cores.{core, core_tidy, core_based, core_level, core_table, core_class}
-use Rattle.book.proofs.Pairs.{same_pairs}
+use Rattle.book.proofs.Cores.{core, set_field, core_tidy, core_based, core_level}
+use Rattle.book.proofs.Same.{known_same, distinct_same, obeys_same, follows_same}
 use Rattle.book.proofs.Adding.{last}
 use Rattle.book.proofs.Found.{found_at, found_none}
 
-pub not_both : false ≡ true → ⊥
-not_both e = let z : ◌≡◌ {A = ℕ} 0 1 = cc in omega arith
-
 full : (bs : Name) → IsName bs → (k : ℕ) → k < length bs → get_or bs k 0 ≢ 0
-full bs G k h e = not_both (sym (ap name_byte e) ∙ G.bytes k h)
+full bs G k h e = true≢false (sym (G.bytes k h) ∙ ap name_byte e)
 
 -- what is trimmed off are the zeros
 trimmed_is : (nm bs : List ℕ) → length bs ≤ length nm → ((k : ℕ) → get_or nm k 0 ≡ get_or bs k 0) → ((k : ℕ) → k < length bs → get_or bs k 0 ≢ 0) → trimmed nm ≡ bs
@@ -88,11 +81,8 @@ module _ (s : Contents) (K : Sound s) (title : List ℕ) (bs : Name) (G : IsName
 
   -- what is not the name stays
   rest : (i : ℕ) → with_name (row zs i) [] ≡ with_name (row s.rows i) []
-  rest i = go (ℕ_discrete i s.names)
-    where
-      go : Dec (i ≡ s.names) → with_name (row zs i) [] ≡ with_name (row s.rows i) []
-      go (yes e) = ap (λ (m : ℕ). with_name (row zs m) []) e ∙ ap (λ (q : Row). with_name q []) here ∙ sym (ap (λ (m : ℕ). with_name (row s.rows m) []) e)
-      go (no e) = ap (λ (q : Row). with_name q []) (other i e)
+  unfolding zs
+  rest i = set_field (λ (q : Row). with_name q []) s.rows s.names (with_name (row s.rows s.names) title) refl i
 
   cores : (i : ℕ) → core (row zs i) ≡ core (row s.rows i)
   cores i = ap core (rest i)
@@ -100,17 +90,14 @@ module _ (s : Contents) (K : Sound s) (title : List ℕ) (bs : Name) (G : IsName
   fits : (n : ℕ) → n ≤ length s.rows → n ≤ length zs
   fits n h = omega (arith, long)
 
-  same_class : class zs ≡ class s.rows
-  same_class = core_class s.rows zs cores
-
   new_name : name_of zs s.names ≡ bs
   new_name = ap (λ (q : Row). trimmed q.name) here ∙ padded_name title bs G P
 
   old_name : (i : ℕ) → i < s.names → name_of zs i ≡ name_of s.rows i
   old_name i h = ap (λ (q : Row). trimmed q.name) (other i (omega arith))
 
-  abbrev Side : ℕ × ℕ → Type 0
-  Side p = (p.0 < s.nodes) × (p.1 < s.nodes) × (class zs p.0 ≡ class zs p.1)
+  said : (i : ℕ) → (row zs i).equation ≡ (row s.rows i).equation
+  said i = ap (λ (q : Row). q.equation) (rest i)
 
   pub sound_titled : Sound (record { rows = set s.rows s.names (with_name (row s.rows s.names) title); names = s.names + 1; nodes = s.nodes; equations = s.equations; priced = s.priced })
   unfolding zs
@@ -138,22 +125,12 @@ module _ (s : Contents) (K : Sound s) (title : List ℕ) (bs : Name) (G : IsName
             | inr q ↦ p ∙ sym q
           ]
         ];
-        known = λ i h. let e = ap (λ (x : Node). x.symbol) (cores i) in omega (arith, K.known i h);
-        distinct = λ i j h l e. K.distinct i j h l (sym (ap (shape_of bare) (cores i)) ∙ e ∙ ap (shape_of bare) (cores j));
+        known = λ i h. let k = known_same s K zs long cores said i h in omega arith;
+        distinct = distinct_same s K zs long cores said;
         based = core_based s.rows zs s.nodes cores K.based;
         level = core_level s.rows zs s.nodes cores K.level;
-        obeys = λ i h.
-            let o = K.obeys i h in
-            subst Side (sym (ap (λ (q : Row). (q.equation.left, q.equation.right)) (rest i))) (
-              o.0,
-              o.1,
-              ap (λ (f : ℕ → ℕ). f (row s.rows i).equation.left) same_class ∙ o.2 ∙ sym (ap (λ (f : ℕ → ℕ). f (row s.rows i).equation.right) same_class),
-            );
-        follows = λ i j h l e.
-            subst₂ (λ (t : Table) (ps : NodePairs). Equal (equations t ps) (build_at t i) (build_at t j))
-            (sym (core_table s.rows zs s.nodes K.nodes_fit.0 (fits s.nodes K.nodes_fit.0) cores))
-            (sym (same_pairs s.rows zs s.equations K.equations_fit.0 (fits s.equations K.equations_fit.0) (λ m q. ap (λ (r : Row). (r.equation.left, r.equation.right)) (rest m))))
-            (K.follows i j h l (sym (ap (λ (f : ℕ → ℕ). f i) same_class) ∙ e ∙ ap (λ (f : ℕ → ℕ). f j) same_class));
+        obeys = obeys_same s K zs long cores said;
+        follows = follows_same s K zs long cores said;
         blank = λ i h l.
             let B = K.blank i (omega (arith, long)) l in (
               λ q. ap (λ (r : Row). r.name) (other i (omega arith)) ∙ B.0 (omega arith),

@@ -1,14 +1,14 @@
 -- What is asked for when a node is entered, what is found, and what is stored.
 --
--- | word     | meaning                                                                  |
--- |----------|--------------------------------------------------------------------------|
--- | asked    | the node that is asked for                                               |
--- | Within   | its parts are nodes                                                      |
--- | new_node | the same as a row has it, in a class, with no choice                     |
--- | raw_of   | what a row's node says: symbol, number of parts, parts                   |
--- | same_signature | whether two nodes say the same                                     |
--- | Meets    | a node that is congruent to the last, if there is one                    |
--- | Put      | a node is stored, in the class of a congruent one if there is one        |
+-- | word           | meaning                                                             |
+-- |----------------|---------------------------------------------------------------------|
+-- | asked          | the node that is asked for                                          |
+-- | Within         | its parts are nodes                                                 |
+-- | new_node       | the same as a row has it, in a class, with no choice                |
+-- | raw_of         | what a row's node says: symbol, number of parts, parts              |
+-- | same_signature | whether two nodes say the same                                      |
+-- | Meets          | a node that is congruent to the last, if there is one               |
+-- | Put            | a node is stored, in the class of a congruent one if there is one   |
 use Rattle.std.specs.Prelude.{◌≡◌, ℕ, Bool, ◌==◌, ◌&&◌, ◌<◌, ◌⊎◌, List, Option, MatchOption, ◌≢◌, slice_set}
 use Rattle.theory.specs.Books.{Node as Entry, leaf, over, pair}
 use Rattle.book.specs.declared.row.Row.{Row}

@@ -30,6 +30,7 @@ fn relabel(rows: &mut [Row], keep: u16, gone: u16)
     }
 }
 
+// Each call says that the rows are those lent (`lent`): by that alone a proof knows afterwards what became of what was lent.
 impl Classes<'_> {
     // the nodes as they stand
     fn nodes(&self) -> Nodes<'_>
@@ -74,7 +75,7 @@ impl Classes<'_> {
         ensures owes { (d : ℕ) → Owes self.old.rows.now (length self.old.rows.now) self.old.dirty d i 0 → Owes self.new.rows.now (length self.old.rows.now) self.new.dirty d (i + 1) 0 }
         ensures lent { self.new.rows.ghost_name ≡ self.old.rows.ghost_name }
     {
-        // each step may change any row, so no iterator can hold them
+        // by the place, since each step may change any row
         for j in 0..self.rows.len() {
             self.meet(i, j);
         }
@@ -87,7 +88,7 @@ impl Classes<'_> {
         ensures waits { Waits self.new.rows.now (length self.old.rows.now) self.new.dirty }
         ensures lent { self.new.rows.ghost_name ≡ self.old.rows.ghost_name }
     {
-        // each step may change any row, so no iterator can hold them
+        // by the place, since each step may change any row
         for i in 0..self.rows.len() {
             if self.nodes().touches(i, d) {
                 self.settle(i);

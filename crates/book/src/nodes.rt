@@ -15,6 +15,7 @@ pub struct Nodes<'a> {
     ghost based: { Based rows.now (length rows.now) },
 }
 
+// That a place is one of the nodes' stands at each call: a number has no type that says of which slice it is a place.
 impl Nodes<'_> {
     // what makes the node i congruent to another
     fn signature(&self, i: usize) -> Signature

@@ -1,7 +1,7 @@
 // How many of the rows lent a book may use.
 ghost use Rattle.std.specs.Prelude.{◌≡◌, min};
 
-// how many at most: a row's place fits in 16 bits, and so does one more
+// how many at most, as the layout promises
 pub(crate) const MOST: usize = 1024;
 
 pub(crate) fn usable(rows: usize) -> usize

@@ -1,32 +1,13 @@
 -- A symbol or a part is unknown, the node is known, there is no row, or the node is new.
 use Rattle.std.proofs.Common.{◌+◌, ◌-◌, refl, arith}
-use mathlib.Core.Bool.{false≢true}
-use Rattle.theory.specs.Calls.{Entering.no_symbol, Entering.no_part}
 use Rattle.book.specs.Held.{contents}
 use Rattle.book.proofs.Whole.{sound_of}
-use Rattle.book.proofs.States.{names_long}
 use Rattle.book.proofs.Booked.{kept_of, laid_left, told}
-use Rattle.book.proofs.Asked.{asked_symbol, within_asked}
 use Rattle.book.proofs.Entered.{answers_known, answers_full, put_tidy, put_based, put_unpriced_front, answers_new, sound_entered, laid_entered}
 use Rattle.book.proofs.book.Book.enter.Goals as goal
 
-pub returns-then-symbol-self-clause-answer : goal.returns-then-symbol-self-clause-answer
-returns-then-symbol-self-clause-answer c =
-    let s = contents c.args.self.now.table in
-    let z = names_long s (sound_of s c.args.self.now.holds) in
-    let e = asked_symbol c.args.symbol.0 c.args.parts in
-    no_symbol (λ h. omega arith) (told c.into.ensures) refl
-
 pub returns-then-symbol-self-clause-laid : goal.returns-then-symbol-self-clause-laid
 returns-then-symbol-self-clause-laid c = laid_left c.args.self.now.table c.args.self.now.holds
-
-pub returns-then-not-within-clause-answer : goal.returns-then-not-within-clause-answer
-returns-then-not-within-clause-answer c =
-    let s = contents c.args.self.now.table in
-    let K = sound_of s c.args.self.now.holds in
-    let z = names_long s K in
-    let e = asked_symbol c.args.symbol.0 c.args.parts in
-    no_part (omega arith) (λ h. false≢true (c.if-not-within.ensures.1 (within_asked s K c.args.symbol.0 c.args.parts h))) (told c.into-then-not-within.ensures) refl
 
 pub returns-then-not-within-clause-laid : goal.returns-then-not-within-clause-laid
 returns-then-not-within-clause-laid c = laid_left c.args.self.now.table c.args.self.now.holds

@@ -1,22 +1,11 @@
 -- A node is unknown, there is no row, or the equation is accepted.
-use Rattle.std.proofs.Common.{◌-◌, refl, arith}
-use Rattle.theory.specs.Calls.{Equating.no_node}
+use Rattle.std.proofs.Common.{◌-◌, arith}
 use Rattle.book.specs.Held.{contents}
 use Rattle.book.proofs.Whole.{sound_of}
-use Rattle.book.proofs.States.{nodes_long}
 use Rattle.book.proofs.Booked.{kept_of, laid_left, told}
 use Rattle.book.proofs.Accepted.{answers_full, fit, long_front, accept_tidy, accept_based, accept_level, accepted_unpriced_front, answers_new, sound_accepted, laid_accepted}
 use Rattle.book.proofs.book.Book.equate.Goals.{then-a-n-via-then-a-n, then-a-n-via-else-a-n+then-b-n}
 use Rattle.book.proofs.book.Book.equate.Goals as goal
-
-pub returns-then-a-n-clause-answer : goal.returns-then-a-n-clause-answer
-returns-then-a-n-clause-answer c =
-    let s = contents c.args.self.now.table in
-    let z = nodes_long s (sound_of s c.args.self.now.holds) in
-    no_node (λ h. elim c.then-a-n.branch [
-      | then-a-n-via-then-a-n w ↦ omega (arith, h.0, w.if-a-n.true)
-      | then-a-n-via-else-a-n+then-b-n w ↦ omega (arith, h.1, w.if-b-n.true)
-    ]) (told c.into.ensures) refl
 
 pub returns-then-a-n-clause-laid : goal.returns-then-a-n-clause-laid
 returns-then-a-n-clause-laid c = laid_left c.args.self.now.table c.args.self.now.holds

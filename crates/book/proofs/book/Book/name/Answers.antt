@@ -1,15 +1,10 @@
 -- A name is ill formed, known, without a row, or new.
 use Rattle.std.proofs.Common.{refl, arith}
-use mathlib.Core.Bool.{false≢true}
-use Rattle.theory.specs.Calls.{Naming.ill_formed}
 use Rattle.book.specs.Held.{contents}
 use Rattle.book.proofs.Whole.{sound_of}
 use Rattle.book.proofs.Booked.{kept_of, laid_left, told}
 use Rattle.book.proofs.Named.{answers_known, answers_full, answers_new, sound_named, laid_named}
 use Rattle.book.proofs.book.Book.name.Goals as goal
-
-pub returns-then-not-is_name-clause-answer : goal.returns-then-not-is_name-clause-answer
-returns-then-not-is_name-clause-answer c = ill_formed (λ G. false≢true (c.if-not-is_name.ensures.1 G)) (told c.into.ensures) refl
 
 pub returns-then-not-is_name-clause-laid : goal.returns-then-not-is_name-clause-laid
 returns-then-not-is_name-clause-laid c = laid_left c.args.self.now.table c.args.self.now.holds
