@@ -18,7 +18,7 @@ and_parts : (b x : Bool) → cond b x false ≡ true → (b ≡ true) × (x ≡ 
 and_parts true x e = (refl, e)
 and_parts false x e = absurd (both_ways false refl e)
 
-pub same_true : (p q : Production) → same_production p q ≡ true → p ≡ q
+same_true : (p q : Production) → same_production p q ≡ true → p ≡ q
 same_true p q e =
     let a = and_parts (eqb p.of q.of) _ e in
     let b = and_parts (eqb p.symbol q.symbol) _ a.1 in

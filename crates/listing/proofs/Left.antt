@@ -1,5 +1,6 @@
 -- What is left of a listing, as it is written production by production.
-use Rattle.std.proofs.Common.{◌≡◌, ℕ, ◌+◌, ◌-◌, ◌<◌, ◌≤◌, true, false, List, [], ◌∷◌, ◌++◌, length, get_or, sym, ap, ◌∙◌, arith}
+use Rattle.std.proofs.Common.{◌≡◌, ℕ, ◌+◌, ◌-◌, true, false, List, [], ◌∷◌, ◌++◌, length, get_or, sym, ap, ◌∙◌, arith}
+use Rattle.std.specs.declared.ops.Range.{Range}
 use Rattle.theory.specs.Books.{State}
 use Rattle.theory.specs.Productions.{Production, production}
 use Rattle.listing.specs.declared.write.Productions.{Productions}
@@ -7,38 +8,54 @@ use Rattle.listing.specs.Nodes.{state_in}
 use Rattle.listing.specs.Order.{joined, stands, of_node, of_marked, left_over}
 use Rattle.listing.proofs.Joined.{joined_found, joined_none}
 use Rattle.listing.proofs.Order.{node_taken, node_passed, class_taken, class_passed}
+use Rattle.listing.proofs.Ranges.{Found, NotFound}
 
 -- what an iterator has left
 abbrev pub left : Productions → List Production
-left s = left_over (state_in s.marking.nodes.rows.now) s.marking.bytes.now s.class s.nodes.start s.nodes.end s.classes.start s.classes.end
+left s = left_over (state_in s.marking.nodes.rows.now) s.marking.bytes.now s.class s.nodes s.classes
 
-module _ (s : State) (ms : List ℕ) (k i j a b : ℕ) where
-  -- node x is the next that stands for a production of class k
-  pub node_found : (x u v : ℕ) (p : Production) → i ≤ x → x < j → stands s k x ≡ true → ((y : ℕ) → i ≤ y → y < x → stands s k y ≡ false)
-      → u ≡ x + 1 → v ≡ j → p ≡ production s x → left_over s ms k i j a b ≡ p ∷ left_over s ms k u v a b
-  node_found x u v p l h t f d e g =
-      ap (λ (ps : List Production). ps ++ joined (of_marked s ms) a (b - a))
-      (joined_found (of_node s k) i j x l h (λ y m n. node_passed s k y (f y m n)) ∙ ap (λ (ps : List Production). ps ++ joined (of_node s k) (x + 1) (j - (x + 1))) (node_taken s k x t))
-      ∙ (λ z. sym g z ∷ left_over s ms k (sym d z) (sym e z) a b)
+-- what the searches for a node and for a class look for
+abbrev pub Stands : State → ℕ → ℕ → Type 0
+Stands s k j = stands s k j ≡ true
 
-  -- no node stands for one
-  pub no_node_found : ((y : ℕ) → i ≤ y → y < j → stands s k y ≡ false) → left_over s ms k i j a b ≡ joined (of_marked s ms) a (b - a)
-  no_node_found f =
-      ap (λ (ps : List Production). ps ++ joined (of_marked s ms) a (b - a))
-      (joined_none (of_node s k) i (j - i) (λ y m n. node_passed s k y (f y m (omega arith))))
+abbrev pub Passes : State → ℕ → ℕ → Type 0
+Passes s k j = stands s k j ≡ false
 
-module _ (s : State) (ms : List ℕ) (a b : ℕ) where
-  -- class x is the next that is marked
-  pub class_found : (x n u v : ℕ) → a ≤ x → x < b → (get_or ms x 0 ≡ 0 → ⊥) → ((y : ℕ) → a ≤ y → y < x → get_or ms y 0 ≡ 0)
-      → n ≡ length s.nodes → u ≡ x + 1 → v ≡ b → joined (of_marked s ms) a (b - a) ≡ left_over s ms x 0 n u v
-  class_found x n u v l h t f c d e =
-      joined_found (of_marked s ms) a b x l h (λ y m n. class_passed s ms y (f y m n))
-      ∙ ap (λ (ps : List Production). ps ++ joined (of_marked s ms) (x + 1) (b - (x + 1))) (class_taken s ms x t)
-      ∙ (let m : length s.nodes ≡ n - 0 = omega arith in λ z. joined (of_node s x) 0 (m z) ++ joined (of_marked s ms) (sym d z) (sym e z - sym d z))
+abbrev pub NoMark : List ℕ → ℕ → Type 0
+NoMark ms k = get_or ms k 0 ≡ 0
 
-  -- no class is marked
-  pub no_class_found : ((y : ℕ) → a ≤ y → y < b → get_or ms y 0 ≡ 0) → joined (of_marked s ms) a (b - a) ≡ []
-  no_class_found f = joined_none (of_marked s ms) a (b - a) (λ y m n. class_passed s ms y (f y m (omega arith)))
+abbrev pub Mark : List ℕ → ℕ → Type 0
+Mark ms k = NoMark ms k → ⊥
 
-  pub nothing_left : (k i j : ℕ) → j - i ≡ 0 → b - a ≡ 0 → left_over s ms k i j a b ≡ []
-  nothing_left k i j d e = λ z. joined (of_node s k) i (d z) ++ joined (of_marked s ms) a (e z)
+module _ (s : State) (ms : List ℕ) (k : ℕ) (r c : Range ℕ) where
+  abbrev more : List Production
+  more = joined (of_marked s ms) c.start (c.end - c.start)
+
+  pub node_found : (u : Range ℕ) (j : ℕ) (p : Production) → Found (Stands s k) (Passes s k) r u j → p ≡ production s j
+      → left_over s ms k r c ≡ p ∷ left_over s ms k u c
+  node_found u j p F e =
+      ap (λ (ps : List Production). ps ++ more)
+      (joined_found (of_node s k) r.start r.end j F.from F.within (λ i m n. node_passed s k i (F.missed i m n))
+      ∙ ap (λ (ps : List Production). ps ++ joined (of_node s k) (j + 1) (r.end - (j + 1))) (node_taken s k j F.hit))
+      ∙ (λ z. sym e z ∷ joined (of_node s k) (sym F.rest z) (sym F.end z - sym F.rest z) ++ more)
+
+  pub no_node_found : (u : Range ℕ) → NotFound (Passes s k) r u → left_over s ms k r c ≡ more
+  no_node_found u N =
+      ap (λ (ps : List Production). ps ++ more)
+      (joined_none (of_node s k) r.start (r.end - r.start) (λ i m n. node_passed s k i (N.missed i m (omega arith))))
+
+module _ (s : State) (ms : List ℕ) (c : Range ℕ) where
+  pub class_found : (v : Range ℕ) (k n : ℕ) → Found (Mark ms) (NoMark ms) c v k → n ≡ length s.nodes
+      → joined (of_marked s ms) c.start (c.end - c.start) ≡ left_over s ms k (record { start = 0; end = n }) v
+  class_found v k n F e =
+      let m : length s.nodes ≡ n - 0 = omega arith in
+      joined_found (of_marked s ms) c.start c.end k F.from F.within (λ i l h. class_passed s ms i (F.missed i l h))
+      ∙ ap (λ (ps : List Production). ps ++ joined (of_marked s ms) (k + 1) (c.end - (k + 1))) (class_taken s ms k F.hit)
+      ∙ (λ z. joined (of_node s k) 0 (m z) ++ joined (of_marked s ms) (sym F.rest z) (sym F.end z - sym F.rest z))
+
+  pub no_class_found : (v : Range ℕ) → NotFound (NoMark ms) c v → joined (of_marked s ms) c.start (c.end - c.start) ≡ []
+  no_class_found v N =
+      joined_none (of_marked s ms) c.start (c.end - c.start) (λ i m n. class_passed s ms i (N.missed i m (omega arith)))
+
+pub nothing_left : (s : State) (ms : List ℕ) (k : ℕ) (u v : Range ℕ) → u.end - u.start ≡ 0 → v.end - v.start ≡ 0 → left_over s ms k u v ≡ []
+nothing_left s ms k u v d e = λ z. joined (of_node s k) u.start (d z) ++ joined (of_marked s ms) v.start (e z)

@@ -1,5 +1,5 @@
 -- What is marked, step by step: only classes that are reached, and in the end all of them.
-use Rattle.std.proofs.Common.{◌≡◌, ℕ, ◌+◌, ◌<◌, ◌≤◌, true, ltb, ◌⊎◌, List, length, get_or, set, replicate, sym, ap, ◌∙◌, subst, inl, inr, arith, length-set}
+use Rattle.std.proofs.Common.{◌≡◌, ℕ, ◌<◌, ◌≤◌, true, ltb, ◌⊎◌, List, length, get_or, set, replicate, sym, ap, ◌∙◌, subst, inl, inr, arith, length-set}
 use lib.ListN.{length-replicate}
 use Rattle.std.proofs.lemmas.Bool.{cases_eq, cases_lt, lt-ltb, le-ltb}
 use Rattle.std.proofs.lemmas.List.{get_or-set_same, get_or-set_other, get_or-replicate, get_or_past}
@@ -14,10 +14,6 @@ use Rattle.listing.specs.Marking.{IsMarked, Covered, Closed, Missed, OnlyReached
 use Rattle.listing.proofs.Nodes.{Counted, class_in, counted}
 
 module _ (xs : List Row) (ms : List ℕ) (j : ℕ) where
-  -- the byte of a node's class
-  pub byte_in : get_or ms (class_at (state_in xs) j) 0 ≡ get_or ms (class xs j) 0
-  byte_in = ap (λ (k : ℕ). get_or ms k 0) (class_in xs j)
-
   pub covered_by : (0 < (row xs j).node.parts → IsMarked ms (class xs (row xs j).node.left))
       → (1 < (row xs j).node.parts → IsMarked ms (class xs (row xs j).node.right)) → Covered (state_in xs) ms j
   covered_by f g p q = subst (IsMarked ms) (sym (class_in xs p)) (go (counted xs j p q))
@@ -25,14 +21,6 @@ module _ (xs : List Row) (ms : List ℕ) (j : ℕ) where
       go : Counted (row xs j).node p → IsMarked ms (class xs p)
       go (inl t) = subst (λ (i : ℕ). IsMarked ms (class xs i)) (sym t.1) (f t.0)
       go (inr t) = subst (λ (i : ℕ). IsMarked ms (class xs i)) (sym t.1) (g t.0)
-
--- one node more
-pub closed_more : (s : State) (ms : List ℕ) (j : ℕ) → Closed s ms j → (IsMarked ms (class_at s j) → Covered s ms j) → Closed s ms (j + 1)
-closed_more s ms j c f i h m = go (cases_eq i j)
-  where
-    go : (i ≡ j) ⊎ (i ≡ j → ⊥) → Covered s ms i
-    go (inl e) = subst (Covered s ms) (sym e) (f (subst (λ (k : ℕ). IsMarked ms (class_at s k)) e m))
-    go (inr n) = c i (omega arith) m
 
 module _ (ms : List ℕ) (k : ℕ) (h : k < length ms) where
   pub set_marked : IsMarked (set ms k 1) k

@@ -12,6 +12,7 @@
 -- | listing         | the productions of all marked classes, by class                                              |
 -- | left_over       | those that are left of one class, and those of more classes                                  |
 use Rattle.std.specs.Prelude.{ℕ, zero, suc, ◌-◌, Bool, true, false, cond, List, [], ◌∷◌, ◌++◌, length, ◌==◌, slice_index}
+use Rattle.std.specs.declared.ops.Range.{Range}
 use Rattle.std.specs.List.{flat_map, range_with_len}
 use Rattle.theory.specs.Books.{State, class}
 use Rattle.theory.specs.Productions.{Production, production}
@@ -45,6 +46,6 @@ of_marked s ms k = cond (slice_index ms k == 0) [] (of_class s k)
 abbrev pub listing : State → List ℕ → List Production
 listing s ms = joined (of_marked s ms) 0 (length s.nodes)
 
--- of class k by the nodes from i below j, and of the marked classes from a below b
-abbrev pub left_over : State → List ℕ → ℕ → ℕ → ℕ → ℕ → ℕ → List Production
-left_over s ms k i j a b = joined (of_node s k) i (j - i) ++ joined (of_marked s ms) a (b - a)
+-- of class k by the nodes in a range, and of the marked classes in another
+abbrev pub left_over : State → List ℕ → ℕ → Range ℕ → Range ℕ → List Production
+left_over s ms k nodes classes = joined (of_node s k) nodes.start (nodes.end - nodes.start) ++ joined (of_marked s ms) classes.start (classes.end - classes.start)

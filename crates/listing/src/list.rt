@@ -17,6 +17,7 @@ use book::id::NodeId;
 use text::cause::{BookCause, Layer};
 
 /// The caller's marking bytes while a listing is made: they are cleared however it ends.
+// A rule of the project: a guard over the lent bytes clears them.
 struct Marks<'a>(&'a mut [u8]);
 
 impl Drop for Marks<'_> {

@@ -25,9 +25,9 @@ struct Productions<'a> {
 impl Iterator for Productions<'_> {
     type Item = Production;
 
-    ghost next_gives = { YieldsFirstBy plain (λ s. left_over (state_in s.marking.nodes.rows.now) s.marking.bytes.now s.class s.nodes.start s.nodes.end s.classes.start s.classes.end) };
+    ghost next_gives = { YieldsFirstBy plain (λ s. left_over (state_in s.marking.nodes.rows.now) s.marking.bytes.now s.class s.nodes s.classes) };
 
-    ghost remaining = { item_count (λ s. left_over (state_in s.marking.nodes.rows.now) s.marking.bytes.now s.class s.nodes.start s.nodes.end s.classes.start s.classes.end) };
+    ghost remaining = { item_count (λ s. left_over (state_in s.marking.nodes.rows.now) s.marking.bytes.now s.class s.nodes s.classes) };
 
     fn next(&mut self) -> Option<Production> {
         let marking = self.marking;
@@ -46,7 +46,7 @@ impl Iterator for Productions<'_> {
 impl<'a> Marking<'a> {
     // The productions of the marked classes, by class and then by the lowest node that has each.
     fn productions(self) -> Productions<'a>
-        ensures { left_over (state_in result.marking.nodes.rows.now) result.marking.bytes.now result.class result.nodes.start result.nodes.end result.classes.start result.classes.end ≡ listing (state_in self.entry.nodes.rows.now) self.entry.bytes.now }
+        ensures { left_over (state_in result.marking.nodes.rows.now) result.marking.bytes.now result.class result.nodes result.classes ≡ listing (state_in self.entry.nodes.rows.now) self.entry.bytes.now }
     {
         Productions {
             marking: self,
@@ -64,6 +64,7 @@ impl<'a> Marking<'a> {
         if n > out.len() {
             return Err(BookCause::TooShort.into());
         }
+        // by number: of rows that `iter_mut` lends to a `zip` a proof does not learn what is written
         for (to, production) in self.productions().enumerate() {
             out[to] = production;
         }
