@@ -21,6 +21,7 @@ use samples::told::Told;
 use std::{env, io};
 use text::cause::Layer;
 use text::kind::Rule;
+use text::word::Word;
 
 // a bill with a price for each of the first 64 symbols
 fn some_bill() -> Result<Bill, Layer> {
