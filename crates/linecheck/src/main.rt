@@ -75,9 +75,7 @@ impl Session<'_> {
         if let Err(fault) = check_text(source, text) {
             return self.tell(rt, &fault);
         }
-        let mut lines = Lines::of(source, text);
-        // the lines are no `Iterator`, whose `next` could not promise what `next_line` does
-        while let Some(line) = lines.next_line() {
+        for line in Lines::of(source, text) {
             self.lines = self.lines.saturating_add(1);
             match line.read() {
                 Ok(record) => say(rt, &line, &record)?,

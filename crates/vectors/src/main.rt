@@ -82,9 +82,7 @@ fn checked(text: &[u8]) -> Found {
     if let Err(fault) = check_text(Source::Sheet, text) {
         found.fault(fault);
     }
-    let mut lines = Lines::of(Source::Sheet, text);
-    // the lines are no `Iterator`, whose `next` could not promise what `next_line` does
-    while let Some(line) = lines.next_line() {
+    for line in Lines::of(Source::Sheet, text) {
         found.lines = found.lines.saturating_add(1);
         if let Err(fault) = line.read() {
             found.fault(fault);
