@@ -1,5 +1,5 @@
 -- The steps of the loops that close the classes.
-use Rattle.std.proofs.Common.{◌≡◌, ℕ, ◌+◌, ◌<◌, ◌≤◌, Bool, true, false, ◌⊎◌, List, length, get_or, set, Some, None, position, sym, refl, ap, ◌∙◌, subst, subst₂, inl, inr, arith, length-set}
+use Rattle.std.proofs.Common.{◌≡◌, ℕ, ◌+◌, ◌<◌, ◌≤◌, Bool, true, false, ◌⊎◌, List, length, get_or, set, Some, None, position, sym, ap, ◌∙◌, subst, subst₂, inl, inr, arith, length-set}
 use mathlib.Core.List.Memᴰ
 use Rattle.std.proofs.lemmas.List.{get_or_past}
 use Rattle.std.proofs.lemmas.List.Quantifiers.{position-Some}
@@ -101,15 +101,3 @@ accepted_of xs ys zs ds es fs n a b fit tidy base h l J T L =
 
 pub accepted_as : (xs ys zs : List Row) (n a b : ℕ) → ys ≡ zs → Accepted xs zs n a b → Accepted xs ys n a b
 accepted_as xs ys zs n a b e A = subst (λ (us : List Row). Accepted xs us n a b) (sym e) A
-
--- an equation that the classes hold already
-pub held_already : (xs : List Row) (n a b : ℕ) → Based xs n → Level xs n → class xs a ≡ class xs b → Accepted xs xs n a b
-held_already xs n a b base L e =
-    record {
-      only = record { long = refl; within = λ i h. refl; past = λ i h. refl };
-      based = base;
-      level = L;
-      coarser = λ i j h l q. q;
-      joins = e;
-      sound = λ ps m P. P;
-    }

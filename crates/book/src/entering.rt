@@ -63,6 +63,7 @@ impl Book<'_> {
     }
 
     /// The node of a symbol over nodes: the known one, or else the next.
+    #[tactic(auto, using(crate::proofs::Booked::laid_left))]
     pub fn enter(&mut self, symbol: Symbol, parts: Parts) -> Result<NodeId, Layer>
         ensures answer { Entering (state self.old.table) (asked symbol.0 parts) (node_answer result) (state self.new.table) }
         ensures laid { Relaid (contents self.old.table) (contents self.new.table) }

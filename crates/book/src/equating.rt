@@ -14,6 +14,7 @@ use text::cause::{BookCause, Layer};
 
 impl Book<'_> {
     /// Accepts that two nodes are equal, and answers the number of the equation.
+    #[tactic(auto, using(crate::proofs::Booked::laid_left))]
     pub fn equate(&mut self, a: NodeId, b: NodeId) -> Result<EquationId, Layer>
         ensures answer { Equating (state self.old.table) a.0 b.0 (equation_answer result) (state self.new.table) }
         ensures laid { Relaid (contents self.old.table) (contents self.new.table) }

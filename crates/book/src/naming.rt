@@ -34,6 +34,7 @@ impl Book<'_> {
     }
 
     /// The symbol of a name: the known one, or else the next.
+    #[tactic(auto, using(crate::proofs::Booked::laid_left))]
     pub fn name(&mut self, bytes: &[u8]) -> Result<Symbol, Layer>
         ensures answer { Naming (state self.old.table) bytes.now (symbol_answer result) (state self.new.table) }
         ensures laid { Relaid (contents self.old.table) (contents self.new.table) }

@@ -1,13 +1,10 @@
--- An equation that the classes hold already changes nothing; else they are joined and closed.
+-- The classes are joined and closed.
 use Rattle.std.proofs.Common.{rules, ℕ, false, replicate, length, sym, subst, arith}
 use lib.ListN.{length-replicate}
 use Rattle.book.specs.Closing.{Waits, Level, Turned}
-use Rattle.book.proofs.Sweeps.{joined_waits, accepted_of, accepted_as, held_already}
+use Rattle.book.proofs.Sweeps.{joined_waits, accepted_of, accepted_as}
 use Rattle.book.proofs.Merging.{joined_step}
 use Rattle.book.proofs.closing.accept.Goals as goal
-
-pub returns-then-rows-a : goal.returns-then-rows-a
-returns-then-rows-a c = held_already c.args.rows.now (length c.args.rows.now) c.args.a c.args.b c.requires.based c.requires.level c.if-rows-a.true
 
 pub close-requires : goal.close-requires
 close-requires c =

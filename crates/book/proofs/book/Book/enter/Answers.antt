@@ -2,15 +2,9 @@
 use Rattle.std.proofs.Common.{◌+◌, ◌-◌, refl, arith}
 use Rattle.book.specs.Held.{contents}
 use Rattle.book.proofs.Whole.{sound_of}
-use Rattle.book.proofs.Booked.{kept_of, laid_left, told}
+use Rattle.book.proofs.Booked.{kept_of, told}
 use Rattle.book.proofs.Entered.{answers_known, answers_full, put_tidy, put_based, put_unpriced_front, answers_new, sound_entered, laid_entered}
 use Rattle.book.proofs.book.Book.enter.Goals as goal
-
-pub returns-then-symbol-self-clause-laid : goal.returns-then-symbol-self-clause-laid
-returns-then-symbol-self-clause-laid c = laid_left c.args.self.now.table c.args.self.now.holds
-
-pub returns-then-not-within-clause-laid : goal.returns-then-not-within-clause-laid
-returns-then-not-within-clause-laid c = laid_left c.args.self.now.table c.args.self.now.holds
 
 pub wanted-node-requires : goal.wanted-node-requires
 wanted-node-requires c =
@@ -23,17 +17,11 @@ returns-in-Some-clause-answer c =
     answers_known s (sound_of s c.args.self.now.holds) c.args.symbol.0 c.args.parts c.wanted-node.result (omega arith) (c.if-not-within.ensures.0 refl)
     c.wanted-node.ensures c.in-Some.i c.in-Some.ensures
 
-pub returns-in-Some-clause-laid : goal.returns-in-Some-clause-laid
-returns-in-Some-clause-laid c = laid_left c.args.self.now.table c.args.self.now.holds
-
 pub returns-then-n-usable-clause-answer : goal.returns-then-n-usable-clause-answer
 returns-then-n-usable-clause-answer c =
     let s = contents c.args.self.now.table in
     answers_full s (sound_of s c.args.self.now.holds) c.args.symbol.0 c.args.parts c.wanted-node.result (omega arith) (c.if-not-within.ensures.0 refl)
     c.wanted-node.ensures c.in_default.ensures (omega (arith, c.usable.ensures)) _ (told c.into-then-n-usable.ensures)
-
-pub returns-then-n-usable-clause-laid : goal.returns-then-n-usable-clause-laid
-returns-then-n-usable-clause-laid c = laid_left c.args.self.now.table c.args.self.now.holds
 
 pub put-requires-clause-tidy : goal.put-requires-clause-tidy
 put-requires-clause-tidy c =

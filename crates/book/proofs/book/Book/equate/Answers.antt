@@ -2,21 +2,14 @@
 use Rattle.std.proofs.Common.{◌-◌, arith}
 use Rattle.book.specs.Held.{contents}
 use Rattle.book.proofs.Whole.{sound_of}
-use Rattle.book.proofs.Booked.{kept_of, laid_left, told}
+use Rattle.book.proofs.Booked.{kept_of, told}
 use Rattle.book.proofs.Accepted.{answers_full, fit, long_front, accept_tidy, accept_based, accept_level, accepted_unpriced_front, answers_new, sound_accepted, laid_accepted}
-use Rattle.book.proofs.book.Book.equate.Goals.{then-a-n-via-then-a-n, then-a-n-via-else-a-n+then-b-n}
 use Rattle.book.proofs.book.Book.equate.Goals as goal
-
-pub returns-then-a-n-clause-laid : goal.returns-then-a-n-clause-laid
-returns-then-a-n-clause-laid c = laid_left c.args.self.now.table c.args.self.now.holds
 
 pub returns-then-at-usable-clause-answer : goal.returns-then-at-usable-clause-answer
 returns-then-at-usable-clause-answer c =
     let s = contents c.args.self.now.table in
     answers_full s (sound_of s c.args.self.now.holds) c.args.a.0 c.args.b.0 (omega arith) (omega arith) (omega (arith, c.usable.ensures)) _ (told c.into-then-at-usable.ensures)
-
-pub returns-then-at-usable-clause-laid : goal.returns-then-at-usable-clause-laid
-returns-then-at-usable-clause-laid c = laid_left c.args.self.now.table c.args.self.now.holds
 
 pub overflow_cast-table : goal.overflow_cast-table
 overflow_cast-table c = let K = sound_of (contents c.args.self.now.table) c.args.self.now.holds in omega (arith, K.nodes_fit.1)

@@ -2,12 +2,9 @@
 use Rattle.std.proofs.Common.{refl, arith}
 use Rattle.book.specs.Held.{contents}
 use Rattle.book.proofs.Whole.{sound_of}
-use Rattle.book.proofs.Booked.{kept_of, laid_left, told}
+use Rattle.book.proofs.Booked.{kept_of, told}
 use Rattle.book.proofs.Named.{answers_known, answers_full, answers_new, sound_named, laid_named}
 use Rattle.book.proofs.book.Book.name.Goals as goal
-
-pub returns-then-not-is_name-clause-laid : goal.returns-then-not-is_name-clause-laid
-returns-then-not-is_name-clause-laid c = laid_left c.args.self.now.table c.args.self.now.holds
 
 pub returns-in-Some-clause-answer : goal.returns-in-Some-clause-answer
 returns-in-Some-clause-answer c =
@@ -15,17 +12,11 @@ returns-in-Some-clause-answer c =
     answers_known s (sound_of s c.args.self.now.holds) c.padded-title.result c.args.bytes.now (c.if-not-is_name.ensures.0 refl) c.padded-title.ensures
     c.in-Some.i c.in-Some.ensures
 
-pub returns-in-Some-clause-laid : goal.returns-in-Some-clause-laid
-returns-in-Some-clause-laid c = laid_left c.args.self.now.table c.args.self.now.holds
-
 pub returns-then-n-usable-clause-answer : goal.returns-then-n-usable-clause-answer
 returns-then-n-usable-clause-answer c =
     let s = contents c.args.self.now.table in
     answers_full s (sound_of s c.args.self.now.holds) c.padded-title.result c.args.bytes.now (c.if-not-is_name.ensures.0 refl) c.padded-title.ensures
     c.in_default.ensures (omega (arith, c.usable.ensures)) _ (told c.into-then-n-usable.ensures)
-
-pub returns-then-n-usable-clause-laid : goal.returns-then-n-usable-clause-laid
-returns-then-n-usable-clause-laid c = laid_left c.args.self.now.table c.args.self.now.holds
 
 pub invariant_of-self : goal.invariant_of-self
 invariant_of-self c =

@@ -25,11 +25,7 @@ loop-d-preserved c =
       c.sweep.ensures.lent ∙ c.loop-d.invariant.2,
     )
 
-pub returns : goal.returns
-returns c =
+pub returns-clause-level : goal.returns-clause-level
+returns-clause-level c =
     let s = c.loop-d.self in
-    record {
-      turned = c.loop-d.invariant.0;
-      level = level_of s.rows.now (length c.args.self.now.rows.now) s.dirty c.loop-d.invariant.1 (no_mark s.dirty c.in_default.ensures);
-      lent = c.loop-d.invariant.2;
-    }
+    level_of s.rows.now (length c.args.self.now.rows.now) s.dirty c.loop-d.invariant.1 (no_mark s.dirty c.in_default.ensures)

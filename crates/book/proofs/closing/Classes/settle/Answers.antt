@@ -16,11 +16,7 @@ loop-j-preserved c =
       m.lent ∙ I.2,
     )
 
-pub returns : goal.returns
-returns c =
+pub returns-clause-owes : goal.returns-clause-owes
+returns-clause-owes c =
     let s = c.loop-j.self in
-    record {
-      turned = c.loop-j.invariant.0;
-      owes = λ d O. owes_row s.rows.now (length c.args.self.now.rows.now) s.dirty d c.args.i c.loop-j.j (omega arith) (c.loop-j.invariant.1 d O);
-      lent = c.loop-j.invariant.2;
-    }
+    λ d O. owes_row s.rows.now (length c.args.self.now.rows.now) s.dirty d c.args.i c.loop-j.j (omega arith) (c.loop-j.invariant.1 d O)

@@ -1,11 +1,11 @@
 -- A node above the class is compared with all, another owes nothing.
-use Rattle.std.proofs.Common.{◌≡◌, ℕ, ◌+◌, List, length, sym, ◌∙◌, subst, arith}
+use Rattle.std.proofs.Common.{◌≡◌, ℕ, ◌+◌, List, length, sym, ◌∙◌, subst}
 use Rattle.book.specs.declared.row.Row.{Row}
 use Rattle.book.specs.declared.closing.Classes.{Classes}
 use Rattle.book.specs.Rows.{shape}
 use Rattle.book.specs.Closing.{Turned, Owes, Clear}
 use Rattle.book.proofs.Merging.{turned_next}
-use Rattle.book.proofs.Owing.{owes_clear, owes_none}
+use Rattle.book.proofs.Owing.{owes_clear}
 use Rattle.book.proofs.closing.Classes.sweep.Goals as goal
 use Rattle.book.proofs.closing.Classes.sweep.Goals.{then-touches, else-touches}
 
@@ -33,12 +33,3 @@ loop-i-preserved c =
             I.2,
           )
     ]
-
-pub returns : goal.returns
-returns c =
-    let s = c.loop-i.self in
-    record {
-      turned = c.loop-i.invariant.0;
-      waits = owes_none s.rows.now (length c.args.self.now.rows.now) s.dirty c.args.d c.loop-i.i 0 (omega arith) c.loop-i.invariant.1;
-      lent = c.loop-i.invariant.2;
-    }
