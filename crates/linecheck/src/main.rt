@@ -6,7 +6,7 @@ ghost use Rattle.std.specs.Prelude.{◌≤◌, length, IfOk};
 use records::lines::{LONGEST_TEXT, Lines, TextLine, check_text};
 use records::record::Record;
 use report::checked::{print_fault, print_line, print_totals};
-use std::io::{ErrorKind, Read, Write};
+use std::io::{Read, Write};
 use std::{fs, io};
 use text::cause::BookCause;
 use text::cite::{cited, text_of};
@@ -14,7 +14,7 @@ use text::fault::Fault;
 use text::refusal::Source;
 
 /// One byte more than a text may have, so that a longer one shows.
-const ROOM: u64 = LONGEST_TEXT as u64 + 1;
+const ROOM: usize = LONGEST_TEXT + 1;
 
 /// More than any printed row has; rows are printed into lent memory.
 const ROW: usize = 512;
@@ -28,19 +28,21 @@ struct Session<'a> {
     faults: usize,
 }
 
-/// The first bytes of a file, one more than a text may have at most.
-fn read_first(rt: &HostRuntime, path: &str) -> io::Result<Vec<u8>> {
-    let mut bytes = Vec::new(rt.alloc());
-    fs::open(rt, path)?.take(ROOM).read_to_end(&mut bytes)?;
-    Ok(bytes)
-}
-
-/// The same, and none where it cannot be read. That memory ran out is passed on.
-fn read_text(rt: &HostRuntime, path: &str) -> io::Result<Vec<u8>> {
-    match read_first(rt, path) {
-        Err(e) if e.kind() != ErrorKind::OutOfMemory => Ok(Vec::new(rt.alloc())),
-        read => read,
+/// The bytes of a file, as many as there is room for; none where it cannot be read.
+fn read_text<'a>(rt: &HostRuntime, path: &str, room: &'a mut [u8]) -> &'a [u8] {
+    let Ok(mut file) = fs::open(rt, path) else {
+        return &[];
+    };
+    let mut len = 0;
+    // a box has no heap: a file comes piece by piece into lent memory, and `len` is how much has come
+    while len < room.len() {
+        match file.read(&mut room[len..]) {
+            Ok(0) => break,
+            Ok(n) => len += n,
+            Err(_) => return &[],
+        }
     }
+    &room[..len]
 }
 
 /// Sends a printed row out; a row that the buffer is too short for is not printed.
@@ -87,11 +89,11 @@ impl Session<'_> {
 }
 
 fn main(rt: HostRuntime) -> io::Result<()> {
-    let log = read_text(&rt, "flex.log")?;
-    let sheet = read_text(&rt, "pairing.sheet")?;
+    let mut log_room = [0; ROOM];
+    let mut sheet_room = [0; ROOM];
     let mut session = Session {
-        log: &log,
-        sheet: &sheet,
+        log: read_text(&rt, "flex.log", &mut log_room),
+        sheet: read_text(&rt, "pairing.sheet", &mut sheet_room),
         lines: 0,
         faults: 0,
     };
