@@ -11,7 +11,7 @@ use Rattle.theory.proofs.Tables.{each_map}
 use Rattle.theory.proofs.Symbols.{symbol_is}
 use Rattle.price.specs.Rules.{rule_of}
 use Rattle.book.specs.declared.row.Row.{Row}
-use Rattle.book.specs.Rows.{row, class, shaped, shape_of, bare, absent, name_of, TidyNode}
+use Rattle.book.specs.Rows.{row, class, shaped, shape_of, bare, name_of}
 use Rattle.book.specs.Layout.{Contents, state_of}
 use Rattle.book.specs.Invariant.{Sound}
 use Rattle.book.proofs.Tables.{table_long, table_at}

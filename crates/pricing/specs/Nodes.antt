@@ -16,7 +16,7 @@
 -- | ReadsAt     | the value stands at that place                                                     |
 -- | CostIs      | the value is the cost of a node over the costs of its parts' classes               |
 -- | cost_from   | that cost                                                                          |
-use Rattle.std.specs.Prelude.{◌≡◌, ℕ, ◌+◌, ◌<◌, Bool, true, false, cond, List, [], map, length, get_or, take, Option, Some, None, is_some, slice_index, slice_index_or}
+use Rattle.std.specs.Prelude.{◌≡◌, ℕ, ◌+◌, ◌<◌, Bool, true, false, cond, List, [], map, get_or, take, Option, Some, None, is_some, slice_index, slice_index_or}
 use Rattle.theory.specs.Names.{Name}
 use Rattle.theory.specs.Tables.{Shape, atom, unary, binary, Table as Shapes, shape_at}
 use Rattle.theory.specs.Costs.{Rule, cost_over}

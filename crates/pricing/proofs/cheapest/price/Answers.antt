@@ -1,6 +1,6 @@
 -- A table is too short, or the classes are settled and the choices stored.
-use Rattle.std.proofs.Common.{◌≡◌, ℕ, List, Option, length, refl, sym, ap, ◌∙◌, subst, arith}
-use Rattle.theory.specs.Costs.{cheaper_by, LawfulOrder}
+use Rattle.std.proofs.Common.{ℕ, List, length, refl, sym, ap, ◌∙◌, subst, arith}
+use Rattle.theory.specs.Costs.{cheaper_by}
 use Rattle.theory.specs.Books.{symbol_of, equations_in}
 use Rattle.theory.specs.Spelling.{CheapestBuilds}
 use Rattle.theory.specs.Calls.{Pricing, granted}

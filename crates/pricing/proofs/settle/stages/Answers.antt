@@ -1,5 +1,5 @@
 -- The loop over the queue.
-use Rattle.std.proofs.Common.{◌≡◌, ◌<◌, List, Bool, Option, ℕ, length, ap, ◌∙◌, sym, refl, subst, arith, length-set}
+use Rattle.std.proofs.Common.{◌≡◌, List, Bool, Option, ℕ, length, ap, ◌∙◌, sym, refl, subst, arith, length-set}
 use Rattle.theory.specs.Steps.{falses}
 use Rattle.book.specs.declared.nodes.Nodes.{Nodes}
 use Rattle.pricing.specs.declared.chain.Side.TheVariants.{Left, Right}

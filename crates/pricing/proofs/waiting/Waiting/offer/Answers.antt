@@ -1,4 +1,4 @@
-use Rattle.std.proofs.Common.{true, [], length, sym}
+use Rattle.std.proofs.Common.{[], length, sym}
 use Rattle.pricing.specs.Nodes.{ready_at, bare_rule, cost_from}
 use Rattle.pricing.proofs.Offers.{waits_of, offered_in, waits_in}
 use Rattle.pricing.proofs.waiting.Waiting.offer.Goals as goal

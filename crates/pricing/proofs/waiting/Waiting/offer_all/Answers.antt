@@ -1,8 +1,8 @@
-use Rattle.std.proofs.Common.{◌≡◌, ℕ, ◌<◌, true, length, ◌∙◌, arith}
+use Rattle.std.proofs.Common.{◌≡◌, true, ◌∙◌}
 use borrow.Author.Count.{below_more}
 use Rattle.pricing.specs.Nodes.{ready_at, bare_rule}
 use Rattle.pricing.specs.Offers.{flag}
-use Rattle.pricing.proofs.Offers.{offers_none, offers_then}
+use Rattle.pricing.proofs.Offers.{offers_then}
 use Rattle.pricing.proofs.waiting.Waiting.offer_all.Goals as goal
 
 pub loop-i-preserved : goal.loop-i-preserved
