@@ -1,5 +1,5 @@
 -- Nodes put into the queue, one and more: what is held then, and the room that is left.
-use Rattle.std.proofs.Common.{◌≡◌, ℕ, zero, suc, ◌+◌, ◌<◌, ◌≤◌, Bool, true, false, ◌⊎◌, List, ◌∷◌, length, set, MatchBool, sym, refl, ap, ◌∙◌, subst, inl, inr, suc-le-suc, le_of_suc-le-suc, arith}
+use Rattle.std.proofs.Common.{◌≡◌, ℕ, zero, suc, ◌+◌, ◌<◌, ◌≤◌, Bool, true, false, ◌⊎◌, List, ◌∷◌, length, set, MatchBool, sym, refl, ap, ◌∙◌, subst, inl, inr, suc-le-suc, le_of_suc-le-suc, arith, length-set}
 use native.Mathlib.Decide.{ℕ_discrete}
 use Rattle.std.specs.List.{ContainsAt as Has}
 use Rattle.std.specs.List.Sorted.{IsPermutation}
@@ -12,8 +12,12 @@ use Rattle.theory.specs.Steps.{SetAt}
 use Rattle.theory.proofs.Stages.{falses_set, falses_some}
 use Rattle.queue.specs.declared.Entry.{Entry}
 use Rattle.queue.specs.declared.Queue.{Queue}
-use Rattle.queue.specs.Queues.{slice, has_room, Ordered, Pushed, Same}
-use Rattle.pricing.specs.Offers.{flag, entry, Waits, Offered}
+use Rattle.queue.specs.Queues.{slice, held, has_room, Ordered, Pushed, Same}
+use Rattle.theory.specs.Costs.{Rule}
+use Rattle.book.specs.declared.nodes.Nodes.{Nodes}
+use Rattle.pricing.specs.declared.settled.Settled.{Settled}
+use Rattle.pricing.specs.Nodes.{ready_at, cost_from}
+use Rattle.pricing.specs.Offers.{flag, entry, Waits, Offered, Offers}
 
 -- ---- lists with one more in front
 
@@ -118,19 +122,40 @@ module _ {C : Type 0} (n : ℕ) (ready : ℕ → Bool) (cost : ℕ → C) where
       only x (inl h) = was x (A.only x h)
       only x (inr h) = inr (h.0, flag_low F F' x.node (A.up x.node) h.1, h.2, h.3, h.4)
 
-  -- room is left for the others
-  pub waits_then : (below : C → C → Bool) (F F' : List Bool) (p p' : Queue C) (q q' : List (Entry C)) → Waits below n F p
-      → Offered n ready cost F F' p.count p'.count q q' → Ordered below p' → length (slice p') ≡ length (slice p) → length F' ≡ length F
-      → Waits below n F' p'
-  waits_then below F F' p p' q q' W A o ls lf =
-      record { order = o; wide = omega (arith, W.wide); flags = omega (arith, W.flags); space = omega (arith, W.space, A.count) }
+-- a node that was not put in, is ready, and is pushed at its cost: there was room for it, and room is left for the others
+module _ {C : Type 0} (below : C → C → Bool) (n : ℕ) (ready : ℕ → Bool) (cost : ℕ → C) (F : List Bool) (q q' : Queue C) (i : ℕ) (a : C) (r : Bool)
+    (W : Waits below n F q) (here : i < n) (low : flag F i ≡ false) (is_ready : ready i ≡ true) (is : a ≡ cost i)
+    (granted : r ≡ has_room q) (after : MatchBool r (Pushed (entry a i) q q') (Same q q')) where
+  pushed : Pushed (entry a i) q q'
+  pushed =
+      when_true (Pushed (entry a i) q q') (Same q q')
+      (granted ∙ lt-ltb q.count (length (slice q)) (omega (arith, falses_some (flag F) i n here low, W.wide, W.space))) after
 
--- there is room for a node that was not put in
-pub waits_room : {C : Type 0} (below : C → C → Bool) (n : ℕ) (F : List Bool) (p : Queue C) (i : ℕ) → Waits below n F p → i < n
-    → flag F i ≡ false → p.count < length (slice p)
-waits_room below n F p i W h e = omega (arith, falses_some (flag F) i n h e, W.wide, W.space)
+  pub offered_in : Offered n ready cost F (set F i true) q.count q'.count (held q) (held q')
+  offered_in = offered_put n ready cost F q.count q'.count (held q) (held q') i a here W.flags low is_ready is pushed.count pushed.adds
 
--- where there is room, a push is granted
-pub pushed_in : {C : Type 0} (e : Entry C) (p p' : Queue C) (r : Bool) → r ≡ has_room p → MatchBool r (Pushed e p p') (Same p p')
-    → p.count < length (slice p) → Pushed e p p'
-pushed_in e p p' r is w l = when_true (Pushed e p p') (Same p p') (is ∙ lt-ltb p.count (length (slice p)) l) w
+  pub waits_in : Ordered below q' → length (slice q') ≡ length (slice q) → Waits below n (set F i true) q'
+  waits_in order long =
+      record {
+        order = order;
+        wide = omega (arith, W.wide);
+        flags = omega (arith, W.flags, length-set F i true);
+        space = omega (arith, W.space, offered_in.count);
+      }
+
+-- ---- by what is settled
+
+module _ {C : Type 0} (rule : Rule C) (s : Settled C) where
+  pub offers_none : (F : List Bool) (q : Queue C) → Offers rule s F F q q
+  offers_none F q =
+      offered_none (length s.nodes.rows.now) (ready_at s.nodes.rows.now s.chosen) (cost_from rule s.nodes.rows.now s.costs.now) F q.count (held q)
+
+  pub offers_then : (F F' F'' : List Bool) (q q' q'' : Queue C) → Offers rule s F F' q q' → Offers rule s F' F'' q' q'' → Offers rule s F F'' q q''
+  offers_then F F' F'' q q' q'' A B =
+      offered_then (length s.nodes.rows.now) (ready_at s.nodes.rows.now s.chosen) (cost_from rule s.nodes.rows.now s.costs.now) F F' F''
+      q.count q'.count q''.count (held q) (held q') (held q'') A B
+
+-- the same nodes have as much room
+pub waits_of : {C : Type 0} (below : C → C → Bool) (F : List Bool) (q : Queue C) (N M : Nodes) → N ≡ M → Waits below (length N.rows.now) F q
+    → Waits below (length M.rows.now) F q
+waits_of below F q N M e W = subst (λ (K : Nodes). Waits below (length K.rows.now) F q) e W

@@ -1,5 +1,5 @@
 -- What taking an entry out of the queue does between two stages: its class was settled before, or its node settles it.
-use Rattle.std.proofs.Common.{◌≡◌, ℕ, ◌+◌, ◌<◌, ◌≤◌, Bool, true, false, cond, ltb, ◌≢◌, ◌⊎◌, List, ◌∷◌, length, get_or, set, sym, refl, ap, ◌∙◌, subst, ap₂, inl, inr, arith}
+use Rattle.std.proofs.Common.{◌≡◌, ℕ, ◌<◌, ◌≤◌, Bool, true, false, cond, ltb, ◌≢◌, ◌⊎◌, List, ◌∷◌, length, get_or, set, Option, Some, None, sym, refl, ap, ◌∙◌, subst, ap₂, inl, inr, arith}
 use native.Mathlib.Decide.{ℕ_discrete}
 use Rattle.std.specs.List.{ContainsAt as Has}
 use Rattle.std.specs.List.Sorted.{IsPermutation}
@@ -14,7 +14,7 @@ use Rattle.theory.specs.Costs.{Rule}
 use Rattle.theory.specs.Stages.{done_in, choice_in, cost_in, cost_at, Ready, Foremost, stage}
 use Rattle.theory.proofs.Tables.{each_map}
 use Rattle.theory.proofs.Stages.{done_set, choice_set, cost_set, done_still, cost_at_still}
-use Rattle.pricing.specs.Nodes.{settled}
+use Rattle.pricing.specs.Nodes.{settled, chosen_at}
 use Rattle.pricing.specs.Offers.{flag, entry}
 use Rattle.pricing.proofs.Offers.{has_first, has_rest, has_cases}
 use Rattle.pricing.proofs.Turns.{PartsDone, Due, Full, settled_is}
@@ -34,7 +34,7 @@ module _ {C : Type 0} (below : C → C → Bool) where
       (ap₂ (λ v w. cond v true (cond w false (ltb i j))) (sym (not_below a b i j e)) (sym f) ∙ e)
 
 module _ {C : Type 0} {rule : Rule C} {t : Table} {class : ℕ → ℕ} (lower : PartsFirst t) (within : (i : ℕ) → i < length t → class i < length t)
-    {ms ch : List ℕ} {cs : List C} {F : List Bool} {q : List (Entry C)} (D : Due rule t class ms ch cs F q)
+    {ms : List ℕ} {ch : List (Option ℕ)} {cs : List C} {F : List Bool} {q : List (Entry C)} (D : Due rule t class ms ch cs F q)
     (x : Entry C) (q' : List (Entry C)) (takes : IsPermutation q (x ∷ q')) where
   pub here : (x.node < length t) × (flag F x.node ≡ true) × (x.cost ≡ cost_at rule t class ms x.node)
   here = D.sound x (has_shuffled _ _ x (IsPermutation-sym _ _ takes) (has_first x q'))
@@ -103,18 +103,19 @@ module _ {C : Type 0} {rule : Rule C} {t : Table} {class : ℕ → ℕ} (lower :
         subst (λ (a : C). Has q' (entry a j)) (sym (cost_same j w))
         (still_held j (cost_at rule t class ms j) (λ f. n (ap class f)) (D.complete j u e))
 
-    chosen_at : length t ≤ length ch → (k : ℕ) → k < length t → Dec (k ≡ class x.node)
-        → get_or (set ch (class x.node) (x.node + 1)) k 0 ≡ cond (done_in class (x.node ∷ ms) k) (choice_in class (x.node ∷ ms) k + 1) 0
-    chosen_at long k h (yes e) =
-        ap (λ (n : ℕ). get_or (set ch (class x.node) (x.node + 1)) n 0) e
-        ∙ get_or-set_same ch (class x.node) (x.node + 1) 0 (omega (arith, within x.node here.0))
-        ∙ sym (cond-true (done_in class (x.node ∷ ms) k) (choice_in class (x.node ∷ ms) k + 1) 0
+    choice_now : length t ≤ length ch → (k : ℕ) → k < length t → Dec (k ≡ class x.node)
+        → chosen_at (set ch (class x.node) (Some x.node)) k
+        ≡ cond (done_in class (x.node ∷ ms) k) (Some (choice_in class (x.node ∷ ms) k)) None
+    choice_now long k h (yes e) =
+        ap (λ (n : ℕ). chosen_at (set ch (class x.node) (Some x.node)) n) e
+        ∙ get_or-set_same ch (class x.node) (Some x.node) None (omega (arith, within x.node here.0))
+        ∙ sym (cond-true (done_in class (x.node ∷ ms) k) (Some (choice_in class (x.node ∷ ms) k)) None
         (ap (done_in class (x.node ∷ ms)) e ∙ (done_set class ms x.node).here)
-        ∙ ap (λ (n : ℕ). n + 1) (ap (choice_in class (x.node ∷ ms)) e ∙ (choice_set class ms x.node).here))
-    chosen_at long k h (no e) =
-        get_or-set_other ch (class x.node) k (x.node + 1) 0 e
+        ∙ ap Some (ap (choice_in class (x.node ∷ ms)) e ∙ (choice_set class ms x.node).here))
+    choice_now long k h (no e) =
+        get_or-set_other ch (class x.node) k (Some x.node) None e
         ∙ D.chosen k h
-        ∙ ap₂ (λ (b : Bool) (n : ℕ). cond b (n + 1) 0) (sym ((done_set class ms x.node).other k e)) (sym ((choice_set class ms x.node).other k e))
+        ∙ ap₂ (λ (b : Bool) (n : ℕ). cond b (Some n) None) (sym ((done_set class ms x.node).other k e)) (sym ((choice_set class ms x.node).other k e))
 
     priced_at : length t ≤ length cs → (k : ℕ) (d : C) → k < length t → Dec (k ≡ class x.node) → done_in class (x.node ∷ ms) k ≡ true
         → get_or (set cs (class x.node) x.cost) k d ≡ cost_in rule t class (x.node ∷ ms) k
@@ -131,11 +132,11 @@ module _ {C : Type 0} {rule : Rule C} {t : Table} {class : ℕ → ℕ} (lower :
 
     -- it settles its class
     pub settles : length t ≤ length ch → length t ≤ length cs
-        → Due rule t class (x.node ∷ ms) (set ch (class x.node) (x.node + 1)) (set cs (class x.node) x.cost) F q'
+        → Due rule t class (x.node ∷ ms) (set ch (class x.node) (Some x.node)) (set cs (class x.node) x.cost) F q'
     settles long_ch long_cs =
         record {
           staged = stage D.staged foremost;
-          chosen = λ k h. chosen_at long_ch k h (ℕ_discrete k (class x.node));
+          chosen = λ k h. choice_now long_ch k h (ℕ_discrete k (class x.node));
           priced = λ k d h e. priced_at long_cs k d h (ℕ_discrete k (class x.node)) e;
           flagged = λ j h e. still j (D.flagged j h e);
           sound = λ y h.

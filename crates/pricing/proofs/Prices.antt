@@ -1,5 +1,5 @@
 -- Settling the classes of a book's nodes and spreading the choices is pricing the book.
-use Rattle.std.proofs.Common.{◌≡◌, ℕ, ◌+◌, ◌<◌, ◌≤◌, Bool, true, ◌⊎◌, List, map, length, get_or, take, sym, refl, ap, ◌∙◌, subst, inl, inr, arith}
+use Rattle.std.proofs.Common.{◌≡◌, ℕ, ◌+◌, ◌<◌, ◌≤◌, Bool, true, ◌⊎◌, List, map, length, get_or, take, Option, sym, refl, ap, ◌∙◌, subst, inl, inr, arith}
 use Rattle.theory.specs.Costs.{Rule, Cheaper, LawfulOrder, cheaper_by}
 use Rattle.theory.specs.Stages.{done_in, choice_in, cost_in, Stages}
 use Rattle.theory.specs.Books.{State, Chosen, IsNode, table as table_of, class as class_at, choice, with_choices, equations_in}
@@ -17,15 +17,12 @@ use Rattle.book.specs.Held.{Kept}
 use Rattle.book.proofs.Columns.{column_long, column_at}
 use Rattle.book.proofs.States.{nodes_long, shapes_long, class_is}
 use Rattle.book.proofs.Booked.{book_of}
+use Rattle.book.proofs.Front.{front_length}
 use Rattle.book.proofs.Repricing.{state_repriced, laid_repriced, kept_repriced}
-use Rattle.pricing.specs.Nodes.{bare_rule}
-use Rattle.pricing.specs.Settling.{Settles, Spread}
+use Rattle.pricing.specs.Nodes.{bare_rule, one_more}
+use Rattle.pricing.specs.Settling.{Settles, Spread, priced_with}
 use Rattle.pricing.specs.Told.{book_rule, CostsTold}
-use Rattle.pricing.proofs.Renamed.{nodes_length, same_class, stages_named, cost_named_in}
-
--- the book s with the rows ys and a pricing in force
-abbrev pub priced_with : Contents → List Row → Contents
-priced_with s ys = record { rows = ys; names = s.names; nodes = s.nodes; equations = s.equations; priced = true }
+use Rattle.pricing.proofs.Renamed.{same_class, stages_named, cost_named_in}
 
 -- the cost table or the waiting table is too short
 pub too_short : (s : Contents) → Sound s → (cheaper : Cheaper) (c w : ℕ) → (c < s.nodes) ⊎ (w < s.nodes)
@@ -35,7 +32,7 @@ too_short s K cheaper c w (inr h) = short (inr (omega (arith, nodes_long s K))) 
 
 -- the costs were bs, are cs when the classes are settled, and ds at the end
 module _ {R C : Type 0} (below : C → C → Bool) (alone : R → ℕ → C) (one : R → ℕ → C → C) (two : R → ℕ → C → C → C) (r : R)
-    (s : Contents) (K : Sound s) (ys : List Row) (ch : List ℕ) (bs cs ds : List C)
+    (s : Contents) (K : Sound s) (ys : List Row) (ch : List (Option ℕ)) (bs cs ds : List C)
     (S : Settles (bare_rule below alone one two r) (take s.nodes s.rows) ch bs cs)
     (P : Spread s.rows ys s.nodes ch cs ds) where
   abbrev rule : Rule C
@@ -94,7 +91,7 @@ module _ {R C : Type 0} (below : C → C → Bool) (alone : R → ℕ → C) (on
         within = λ i h.
             P.within i h
             ∙ ap (with_choice (row s.rows i))
-            (S.chosen (class s.rows i) (omega (arith, nodes_length s K, class_in i h)) (done i h)
+            (ap one_more (S.chosen (class s.rows i) (omega (arith, front_length s K, class_in i h)) (done i h))
             ∙ ap (λ (f : ℕ → ℕ). choice_in f S.settlers (class s.rows i) + 1) (same_class s K)
             ∙ ap (λ (k : ℕ). k + 1) (sym (pick_is i h)));
         past = P.past;
@@ -120,7 +117,7 @@ module _ {R C : Type 0} (below : C → C → Bool) (alone : R → ℕ → C) (on
       let l = is_node i h in
       let k = class s.rows i in
       P.costs i d l
-      ∙ S.costs k d (omega (arith, nodes_length s K, class_in i l)) (done i l)
+      ∙ S.costs k d (omega (arith, front_length s K, class_in i l)) (done i l)
       ∙ cost_named_in s K below alone one two r S.stages k (done i l)
       ∙ ap (cost_in rule (table_of (state_of s)) (class_at (state_of s)) S.settlers) (class_same i l)
 
@@ -147,6 +144,6 @@ module _ {R C : Type 0} (below : C → C → Bool) (alone : R → ℕ → C) (on
               (subst (λ (t : State). Spelled t i u) state_after a));
           later = λ i d h.
               let l : s.nodes ≤ i = omega (arith, nodes_long s K) in
-              P.later i d l ∙ S.later i d (omega (arith, nodes_length s K));
+              P.later i d l ∙ S.later i d (omega (arith, front_length s K));
           long = long;
         }

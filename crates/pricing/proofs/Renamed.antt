@@ -1,7 +1,6 @@
 -- Stages over bare symbols are stages over the names of a book: a rule asks for symbols, and no two have the same name.
 use Rattle.std.proofs.Common.{◌≡◌, ℕ, zero, suc, ◌<◌, Bool, true, false, cond, eqb, List, [], ◌∷◌, map, length, get_or, take, sym, refl, ap, ◌∙◌, subst, ap₂, arith}
 use mathlib.Core.Path.{fun_ext}
-use Rattle.std.proofs.lemmas.List.{get_or-take, length-take-le}
 use Rattle.std.proofs.lemmas.Bool.{both_ways}
 use Rattle.theory.specs.Names.{Name}
 use Rattle.theory.specs.Tables.{Table, EachPart, shape_at}
@@ -12,12 +11,12 @@ use Rattle.theory.proofs.Tables.{each_map}
 use Rattle.theory.proofs.Symbols.{symbol_is}
 use Rattle.price.specs.Rules.{rule_of}
 use Rattle.book.specs.declared.row.Row.{Row}
-use Rattle.book.specs.Rows.{row, class, shaped, shape_of, bare, absent, name_of, TidyNode}
+use Rattle.book.specs.Rows.{row, class, shaped, shape_of, bare, name_of}
 use Rattle.book.specs.Layout.{Contents, state_of}
 use Rattle.book.specs.Invariant.{Sound}
 use Rattle.book.proofs.Tables.{table_long, table_at}
 use Rattle.book.proofs.States.{names_long, name_is, shapes_long, shape_is}
-use Rattle.pricing.specs.Nodes.{table, bare_number, Fit}
+use Rattle.pricing.specs.Nodes.{table, bare_number}
 use Rattle.pricing.proofs.Turns.{cost_over_same}
 
 -- ---- one rule over one table, and another over another, where each node has the same parts and costs the same
@@ -107,30 +106,6 @@ parts_shaped P nm to x (suc zero) l q e = e
 parts_shaped P nm to x (suc (suc k)) l q e = e
 
 module _ (s : Contents) (K : Sound s) where
-  pub nodes_length : length (take s.nodes s.rows) ≡ s.nodes
-  nodes_length = length-take-le s.nodes s.rows K.nodes_fit.0
-
-  row_here : (i : ℕ) → i < s.nodes → row (take s.nodes s.rows) i ≡ row s.rows i
-  row_here i h = get_or-take s.nodes s.rows i absent h
-
-  pub class_here : (i : ℕ) → i < s.nodes → class (take s.nodes s.rows) i ≡ class s.rows i
-  class_here i h = ap (λ (x : Row). x.node.class) (row_here i h)
-
-  pub fit : Fit (take s.nodes s.rows)
-  fit =
-      let z = nodes_length in
-      record {
-        few = omega (arith, K.nodes_fit.1);
-        tidy = λ i h.
-            let l : i < s.nodes = omega arith in
-            subst (λ (x : Row). TidyNode i x.node) (sym (row_here i l)) (K.tidy i l);
-        based = λ i h.
-            let l : i < s.nodes = omega arith in
-            let b = K.based i l in
-            let c = class_here i l in
-            (omega (arith, b.0), ap (class (take s.nodes s.rows)) c ∙ class_here (class s.rows i) (omega (arith, b.0)) ∙ b.1 ∙ sym c);
-      }
-
   -- the classes, past the end too
   pub same_class : class (take s.nodes s.rows) ≡ class_at (state_of s)
   same_class = fun_ext (λ i. sym (class_column (take s.nodes s.rows) i))

@@ -1,15 +1,16 @@
 -- What the lists of pricing and the queue hold between two stages, and that offering nodes to the queue keeps it.
-use Rattle.std.proofs.Common.{◌≡◌, ℕ, ◌+◌, ◌<◌, ◌≤◌, Bool, true, false, cond, ltb, ◌⊎◌, List, [], ◌∷◌, length, get_or, sym, refl, ap, ◌∙◌, subst, ap₂, inl, inr, arith}
+use Rattle.std.proofs.Common.{◌≡◌, ℕ, ◌<◌, ◌≤◌, Bool, true, false, cond, ◌⊎◌, List, [], ◌∷◌, length, get_or, Option, Some, None, is_some, sym, refl, ap, ◌∙◌, subst, ap₂, inl, inr, arith}
 use Rattle.std.specs.List.{ContainsAt as Has}
-use Rattle.std.proofs.lemmas.Bool.{cond-true, both_ways, lt-ltb}
+use Rattle.std.proofs.lemmas.Bool.{cond-true, both_ways}
 use Rattle.queue.specs.declared.Entry.{Entry}
 use Rattle.theory.specs.Tables.{Shape, atom, unary, binary, Table, PartsFirst, shape_at, EachPart}
 use Rattle.theory.specs.Costs.{Rule, cost_over}
 use Rattle.theory.specs.Stages.{done_in, choice_in, cost_in, cost_at, Ready, Staged, begin, Stages}
 use Rattle.theory.proofs.Tables.{each_map, each_both}
 use Rattle.theory.proofs.Stages.{done_other, all_done}
-use Rattle.pricing.specs.Nodes.{settled, ready_by}
-use Rattle.pricing.specs.Chains.{left_by, right_by}
+use Rattle.pricing.specs.declared.chain.Side.TheVariants.{Left, Right}
+use Rattle.pricing.specs.Nodes.{settled, chosen_at, ready_by}
+use Rattle.pricing.specs.Chains.{key_by}
 use Rattle.pricing.specs.Offers.{flag, entry, Offered}
 
 -- the classes of the parts of node j are settled
@@ -18,9 +19,9 @@ PartsDone t class ms j = EachPart (λ p. done_in class ms (class p) ≡ true) (s
 
 -- by the stages ms: ch has the choices and cs the costs of the classes that are settled, and of the nodes with flags in F those that
 -- are ready are in q, each at its cost
-pub record Due {C : Type 0} (rule : Rule C) (t : Table) (class : ℕ → ℕ) (ms ch : List ℕ) (cs : List C) (F : List Bool) (q : List (Entry C)) : Type 0 where
+pub record Due {C : Type 0} (rule : Rule C) (t : Table) (class : ℕ → ℕ) (ms : List ℕ) (ch : List (Option ℕ)) (cs : List C) (F : List Bool) (q : List (Entry C)) : Type 0 where
   pub staged : Staged rule t class ms
-  pub chosen : (k : ℕ) → k < length t → get_or ch k 0 ≡ cond (done_in class ms k) (choice_in class ms k + 1) 0
+  pub chosen : (k : ℕ) → k < length t → chosen_at ch k ≡ cond (done_in class ms k) (Some (choice_in class ms k)) None
   pub priced : (k : ℕ) (d : C) → k < length t → done_in class ms k ≡ true → get_or cs k d ≡ cost_in rule t class ms k
   pub flagged : (j : ℕ) → j < length t → flag F j ≡ true → PartsDone t class ms j
   pub sound : (x : Entry C) → Has q x → (x.node < length t) × (flag F x.node ≡ true) × (x.cost ≡ cost_at rule t class ms x.node)
@@ -31,7 +32,7 @@ abbrev pub Full : Table → (ℕ → ℕ) → List ℕ → List Bool → Type 0
 Full t class ms F = (j : ℕ) → j < length t → PartsDone t class ms j → flag F j ≡ true
 
 -- what the lists say of node j: whether its parts are done, and what it costs
-abbrev pub ready_from : Table → (ℕ → ℕ) → List ℕ → ℕ → Bool
+abbrev pub ready_from : Table → (ℕ → ℕ) → List (Option ℕ) → ℕ → Bool
 ready_from t class ch j = ready_by (λ p. settled ch (class p)) (shape_at t j)
 
 abbrev pub cost_by : {C : Type 0} → Rule C → Table → (ℕ → ℕ) → List C → ℕ → C
@@ -59,7 +60,7 @@ cost_over_same rule f g (binary s p q) e = ap₂ (rule.cost_two s) e.0 e.1
 
 module _ {C : Type 0} (rule : Rule C) (t : Table) (class : ℕ → ℕ) where
   -- nothing is settled, and nothing is in the queue
-  pub start : (ch : List ℕ) (cs : List C) (F : List Bool) → ((k : ℕ) → k < length t → get_or ch k 0 ≡ 0) → ((k : ℕ) → k < length t → flag F k ≡ false)
+  pub start : (ch : List (Option ℕ)) (cs : List C) (F : List Bool) → ((k : ℕ) → k < length t → chosen_at ch k ≡ None) → ((k : ℕ) → k < length t → flag F k ≡ false)
       → Due rule t class [] ch cs F []
   start ch cs F clear low =
       record {
@@ -72,16 +73,16 @@ module _ {C : Type 0} (rule : Rule C) (t : Table) (class : ℕ → ℕ) where
       }
 
 module _ {C : Type 0} {rule : Rule C} {t : Table} {class : ℕ → ℕ} (lower : PartsFirst t) (within : (i : ℕ) → i < length t → class i < length t)
-    {ms ch : List ℕ} {cs : List C} {F : List Bool} {q : List (Entry C)} (D : Due rule t class ms ch cs F q) where
+    {ms : List ℕ} {ch : List (Option ℕ)} {cs : List C} {F : List Bool} {q : List (Entry C)} (D : Due rule t class ms ch cs F q) where
   parts_in : (j : ℕ) → j < length t → EachPart (λ p. class p < length t) (shape_at t j)
   parts_in j h = each_map (λ p. p < j) (λ p. class p < length t) (λ p l. within p (omega arith)) (shape_at t j) (lower j h)
 
   -- ch says which classes are settled
   pub settled_is : (k : ℕ) → k < length t → settled ch k ≡ done_in class ms k
-  settled_is k h = ap (ltb 0) (D.chosen k h) ∙ go (done_in class ms k)
+  settled_is k h = ap is_some (D.chosen k h) ∙ go (done_in class ms k)
     where
-      go : (v : Bool) → ltb 0 (cond v (choice_in class ms k + 1) 0) ≡ v
-      go true = lt-ltb 0 (choice_in class ms k + 1) (omega arith)
+      go : (v : Bool) → is_some (cond v (Some (choice_in class ms k)) None) ≡ v
+      go true = refl
       go false = refl
 
   ready_done : (j : ℕ) → j < length t → ready_from t class ch j ≡ true → PartsDone t class ms j
@@ -149,28 +150,18 @@ module _ {C : Type 0} {rule : Rule C} {t : Table} {class : ℕ → ℕ} (lower :
 -- ---- which nodes have their flags
 
 module _ (t : Table) (class : ℕ → ℕ) where
-  -- at first the nodes without parts are offered
-  pub full_first : (F : List Bool) → ((j : ℕ) → j < length t → left_by class (shape_at t j) ≡ 0 → PartsDone t class [] j → flag F j ≡ true)
-      → Full t class [] F
-  full_first F seen j h r = seen j h (go (shape_at t j) r) r
-    where
-      go : (x : Shape) → EachPart (λ p. done_in class [] (class p) ≡ true) x → left_by class x ≡ 0
-      go (atom s) e = refl
-      go (unary s p) e = absurd (both_ways false refl e)
-      go (binary s p q) e = absurd (both_ways false refl e.0)
-
-  -- then those with a part of the class that node m settles
+  -- those with a part of the class that node m settles are offered
   pub full_next : (ms : List ℕ) (m : ℕ) (F G : List Bool) → Full t class ms F → ((j : ℕ) → flag F j ≡ true → flag G j ≡ true)
-      → ((j : ℕ) → j < length t → left_by class (shape_at t j) ≡ class m + 1 → PartsDone t class (m ∷ ms) j → flag G j ≡ true)
-      → ((j : ℕ) → j < length t → right_by class (shape_at t j) ≡ class m + 1 → PartsDone t class (m ∷ ms) j → flag G j ≡ true)
+      → ((j : ℕ) → j < length t → key_by Left class (shape_at t j) ≡ Some (class m) → PartsDone t class (m ∷ ms) j → flag G j ≡ true)
+      → ((j : ℕ) → j < length t → key_by Right class (shape_at t j) ≡ Some (class m) → PartsDone t class (m ∷ ms) j → flag G j ≡ true)
       → Full t class (m ∷ ms) G
   full_next ms m F G full up left right j h r = go (shape_at t j) (λ d. up j (full j h d)) (λ e. left j h e r) (λ e. right j h e r) r
     where
-      key : (p : ℕ) → done_in class ms (class p) ≡ false → done_in class (m ∷ ms) (class p) ≡ true → class p + 1 ≡ class m + 1
-      key p d e = ap (λ (k : ℕ). k + 1) (sym (done_other class ms m (class p) d e))
+      key : (p : ℕ) → done_in class ms (class p) ≡ false → done_in class (m ∷ ms) (class p) ≡ true → Some (class p) ≡ Some (class m)
+      key p d e = ap Some (sym (done_other class ms m (class p) d e))
 
-      go : (x : Shape) → (EachPart (λ p. done_in class ms (class p) ≡ true) x → flag G j ≡ true) → (left_by class x ≡ class m + 1 → flag G j ≡ true)
-          → (right_by class x ≡ class m + 1 → flag G j ≡ true) → EachPart (λ p. done_in class (m ∷ ms) (class p) ≡ true) x → flag G j ≡ true
+      go : (x : Shape) → (EachPart (λ p. done_in class ms (class p) ≡ true) x → flag G j ≡ true) → (key_by Left class x ≡ Some (class m) → flag G j ≡ true)
+          → (key_by Right class x ≡ Some (class m) → flag G j ≡ true) → EachPart (λ p. done_in class (m ∷ ms) (class p) ≡ true) x → flag G j ≡ true
       go (atom s) old l r e = old tt
       go (unary s p) old l r e = one (done_in class ms (class p)) refl
         where

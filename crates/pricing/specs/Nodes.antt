@@ -3,34 +3,45 @@
 -- | word        | meaning                                                                            |
 -- |-------------|------------------------------------------------------------------------------------|
 -- | nodes_of    | the rows of a table's nodes                                                        |
--- | Fit         | what every book's nodes keep, as far as pricing relies on it                       |
 -- | table       | the nodes as shapes over bare symbols                                              |
+-- | shape_over  | a name over parts, as a shape                                                      |
+-- | Below       | the parts stand before a node                                                      |
 -- | bare_rule   | a price rule over bare symbols                                                     |
--- | settled     | whether a class is settled: its place in `chosen` is not 0                         |
+-- | chosen_at   | the choice of a class, if it is settled                                            |
+-- | settled     | whether a class is settled: it has a choice                                        |
+-- | ChoicesIn   | each choice is one of the first n nodes                                            |
+-- | one_more    | 1 more than a node, or 0 for none, as a row keeps its choice                       |
 -- | ready_by    | a test holds of each part of a shape                                               |
 -- | ready_at    | the classes of a node's parts are settled                                          |
 -- | ReadsAt     | the value stands at that place                                                     |
 -- | CostIs      | the value is the cost of a node over the costs of its parts' classes               |
 -- | cost_from   | that cost                                                                          |
-use Rattle.std.specs.Prelude.{◌≡◌, ℕ, ◌≤◌, Bool, true, false, cond, List, [], map, length, get_or, take, nat_lt, slice_index, slice_index_or}
+use Rattle.std.specs.Prelude.{◌≡◌, ℕ, ◌+◌, ◌<◌, Bool, true, false, cond, List, [], map, get_or, take, Option, Some, None, is_some, slice_index, slice_index_or}
 use Rattle.theory.specs.Names.{Name}
 use Rattle.theory.specs.Tables.{Shape, atom, unary, binary, Table as Shapes, shape_at}
 use Rattle.theory.specs.Costs.{Rule, cost_over}
 use Rattle.price.specs.Rules.{rule_of}
 use Rattle.book.specs.declared.row.Row.{Row}
 use Rattle.book.specs.declared.table.Table.{Table}
-use Rattle.book.specs.Rows.{class, shape_of, bare, Tidy, Based}
+use Rattle.book.specs.declared.id.Parts.{Parts}
+use Rattle.book.specs.declared.id.Parts.TheVariants.{Zero, One, Two}
+use Rattle.book.specs.Rows.{class, shape_of, bare}
 
 abbrev pub nodes_of : Table → List Row
 nodes_of t = take t.nodes t.rows.now
 
-pub record Fit (xs : List Row) : Type 0 where
-  pub few : length xs ≤ 1024
-  pub tidy : Tidy xs (length xs)
-  pub based : Based xs (length xs)
-
 abbrev pub table : List Row → Shapes
 table xs = map (λ (r : Row). shape_of bare r.node) xs
+
+abbrev pub shape_over : Name → Parts → Shape
+shape_over x Zero = atom x
+shape_over x (One p) = unary x p.0
+shape_over x (Two p q) = binary x p.0 q.0
+
+abbrev pub Below : ℕ → Parts → Type 0
+Below i Zero = Unit {0}
+Below i (One p) = p.0 < i
+Below i (Two p q) = (p.0 < i) × (q.0 < i)
 
 -- the symbol of a bare name
 abbrev pub bare_number : Name → ℕ
@@ -39,15 +50,25 @@ bare_number x = slice_index x 0
 abbrev pub bare_rule : {R C : Type 0} → (C → C → Bool) → (R → ℕ → C) → (R → ℕ → C → C) → (R → ℕ → C → C → C) → R → Rule C
 bare_rule below alone one two r = rule_of below alone one two r bare_number
 
-abbrev pub settled : List ℕ → ℕ → Bool
-settled ch k = nat_lt 0 (slice_index ch k)
+abbrev pub chosen_at : List (Option ℕ) → ℕ → Option ℕ
+chosen_at ch k = slice_index_or ch k None
+
+abbrev pub settled : List (Option ℕ) → ℕ → Bool
+settled ch k = is_some (chosen_at ch k)
+
+abbrev pub ChoicesIn : ℕ → List (Option ℕ) → Type 0
+ChoicesIn n ch = (k j : ℕ) → chosen_at ch k ≡ Some j → j < n
+
+abbrev pub one_more : Option ℕ → ℕ
+one_more None = 0
+one_more (Some j) = j + 1
 
 abbrev pub ready_by : (ℕ → Bool) → Shape → Bool
 ready_by f (atom x) = true
 ready_by f (unary x p) = f p
 ready_by f (binary x p q) = cond (f p) (f q) false
 
-abbrev pub ready_at : List Row → List ℕ → ℕ → Bool
+abbrev pub ready_at : List Row → List (Option ℕ) → ℕ → Bool
 ready_at xs ch i = ready_by (λ p. settled ch (class xs p)) (shape_at (table xs) i)
 
 abbrev pub ReadsAt : {C : Type 0} → List C → ℕ → C → Type 0

@@ -4,6 +4,7 @@
 mod chain;
 pub mod cheapest;
 mod node;
-mod offer;
 mod settle;
+mod settled;
 mod spread;
+mod waiting;

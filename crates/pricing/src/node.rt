@@ -1,76 +1,31 @@
-// What the rows of a book's nodes say while classes are settled. A slice of rows here holds the nodes and nothing else.
+// What the rows of a book's nodes say: the class of a node, and its parts.
 ghost use Rattle.std.specs.Prelude.{◌≡◌, ◌<◌, ◌≤◌, length};
-ghost use Rattle.book.specs.Rows.{class};
-ghost use Rattle.pricing.specs.Nodes.{Fit, settled, ready_at, bare_rule, CostIs, ReadsAt};
+ghost use Rattle.theory.specs.Tables.{shape_at};
+ghost use Rattle.book.specs.Rows.{row, class, bare};
+ghost use Rattle.pricing.specs.Nodes.{table, shape_over, Below};
 
-use book::row::Row;
-use price::rule::PriceRule;
+use book::id::{NodeId, Parts};
+use book::nodes::Nodes;
 
-pub(crate) fn class_at(nodes: &[Row], i: usize) -> usize
-    requires fit { Fit nodes.now }
-    requires here { i < length nodes.now }
-    ensures value { result ≡ class nodes.now i }
+// the class of the node i
+pub(crate) fn class_of(nodes: Nodes<'_>, i: usize) -> usize
+    requires { i < length nodes.rows.now }
+    ensures value { result ≡ class nodes.entry.rows.now i }
     ensures within { result ≤ i }
 {
-    nodes[i].node.class as usize
+    nodes.rows[i].node.class as usize
 }
 
-// whether the class of the node i is settled
-pub(crate) fn is_settled(nodes: &[Row], chosen: &[u16], i: usize) -> bool
-    requires fit { Fit nodes.now }
-    requires room { length nodes.now ≤ length chosen.now }
-    requires here { i < length nodes.now }
-    ensures { result ≡ settled chosen.now (class nodes.now i) }
+// the parts of the node i
+pub(crate) fn parts_of(nodes: Nodes<'_>, i: usize) -> Parts
+    requires { i < length nodes.rows.now }
+    ensures shape { shape_at (table nodes.entry.rows.now) i ≡ shape_over (bare (row nodes.entry.rows.now i).node.symbol) result }
+    ensures lower { Below i result }
 {
-    chosen[class_at(nodes, i)] > 0
-}
-
-// whether the classes of the node's parts are settled
-pub(crate) fn is_ready(nodes: &[Row], chosen: &[u16], i: usize) -> bool
-    requires fit { Fit nodes.now }
-    requires room { length nodes.now ≤ length chosen.now }
-    requires here { i < length nodes.now }
-    ensures { result ≡ ready_at nodes.now chosen.now i }
-{
-    let node = nodes[i].node;
-    if node.parts == 0 {
-        true
-    } else if node.parts == 1 {
-        is_settled(nodes, chosen, node.left as usize)
-    } else if is_settled(nodes, chosen, node.left as usize) {
-        is_settled(nodes, chosen, node.right as usize)
-    } else {
-        false
-    }
-}
-
-// the cost of the class of the node i
-fn class_cost<C: Copy>(nodes: &[Row], costs: &[C], i: usize) -> C
-    requires fit { Fit nodes.now }
-    requires room { length nodes.now ≤ length costs.now }
-    requires here { i < length nodes.now }
-    ensures { ReadsAt costs.now (class nodes.now i) result }
-{
-    costs[class_at(nodes, i)]
-}
-
-// the cost of the node i over the costs of its parts' classes
-pub(crate) fn cost_at<R: PriceRule>(nodes: &[Row], rule: &R, costs: &[R::Cost], i: usize) -> R::Cost
-    requires fit { Fit nodes.now }
-    requires room { length nodes.now ≤ length costs.now }
-    requires here { i < length nodes.now }
-    ensures { CostIs (bare_rule R.below R.alone R.one R.two rule.now) nodes.now costs.now i result }
-{
-    let node = nodes[i].node;
-    let symbol = node.symbol as u32;
-    if node.parts == 0 {
-        rule.cost_alone(symbol)
-    } else if node.parts == 1 {
-        let part = class_cost(nodes, costs, node.left as usize);
-        rule.cost_one(symbol, part)
-    } else {
-        let left = class_cost(nodes, costs, node.left as usize);
-        let right = class_cost(nodes, costs, node.right as usize);
-        rule.cost_two(symbol, left, right)
+    let node = nodes.rows[i].node;
+    match node.parts {
+        0 => Parts::Zero,
+        1 => Parts::One(NodeId(node.left as usize)),
+        _ => Parts::Two(NodeId(node.left as usize), NodeId(node.right as usize)),
     }
 }

@@ -1,109 +1,56 @@
 // Settling the classes in stages.
-ghost use Rattle.std.specs.Prelude.{◌≡◌, ℕ, ◌+◌, ◌<◌, ◌≤◌, false, length, slice_index};
-ghost use Rattle.book.specs.Rows.{class};
-ghost use Rattle.pricing.specs.Nodes.{Fit, bare_rule};
-ghost use Rattle.pricing.specs.Chains.{left_key, right_key, Linked};
-ghost use Rattle.pricing.specs.Offers.{Waits, flag};
-ghost use Rattle.pricing.specs.Settling.{Chose, Settles};
+ghost use Rattle.std.specs.Prelude.{◌≡◌, ℕ, ◌≤◌, length};
+ghost use Rattle.pricing.specs.Nodes.{bare_rule, chosen_at, ChoicesIn};
+ghost use Rattle.pricing.specs.Settling.{Settles};
 
-use crate::chain::{Chains, fill_keys, link};
-use crate::node::{class_at, is_settled};
-use crate::offer::offer_chain;
-use book::row::Row;
+use crate::chain::{Chains, Side};
+use crate::settled::Settled;
+use crate::waiting::Waiting;
+use book::nodes::Nodes;
 use price::rule::PriceRule;
-use queue::{Entry, Queue};
+use queue::Entry;
 
-// makes a node the choice of its class, and answers the class
-fn choose<C: Copy + Drop>(nodes: &[Row], costs: &mut [C], chosen: &mut [u16], e: Entry<C>) -> usize
-    requires fit { Fit nodes.now }
-    requires room { (length nodes.now ≤ length costs.old) × (length nodes.now ≤ length chosen.old) }
-    requires here { e.node < length nodes.now }
-    ensures value { result ≡ class nodes.now e.node }
-    ensures within { result ≤ e.node }
-    ensures after { Chose nodes.now e chosen.old chosen.new costs.old costs.new }
-{
-    let k = class_at(nodes, e.node);
-    chosen[k] = e.node as u16 + 1;
-    costs[k] = e.cost;
-    k
-}
-
-// settles the classes one after another: the queue yields the cheapest node that is ready, and of equals the lowest
+// the stages, one after another: the queue yields the cheapest node that is ready, and of equals the lowest
 fn stages<R: PriceRule>(
-    nodes: &[Row],
+    nodes: Nodes<'_>,
+    settled: &mut Settled<'_, R::Cost>,
     rule: &R,
-    left: Chains<'_>,
-    right: Chains<'_>,
-    costs: &mut [R::Cost],
-    chosen: &mut [u16],
-    queue: &mut Queue<'_, R::Cost>,
-    queued: &mut [bool],
+    waiting: &mut [Entry<R::Cost>],
 )
-    requires fit { Fit nodes.now }
-    requires room { (length nodes.now ≤ length costs.old) × (length nodes.now ≤ length chosen.old) }
-    requires clear { (k : ℕ) → k < length nodes.now → slice_index chosen.old k ≡ 0 }
-    requires left { Linked (length nodes.now) (left_key nodes.now) left.first.now left.next.now }
-    requires right { Linked (length nodes.now) (right_key nodes.now) right.first.now right.next.now }
-    requires first { (1024 < length left.first.now) × (1024 < length right.first.now) }
-    requires next { (length nodes.now ≤ length left.next.now) × (length nodes.now ≤ length right.next.now) }
-    requires waits { Waits R.below (length nodes.now) queued.old queue.old }
-    requires low { (i : ℕ) → i < length nodes.now → flag queued.old i ≡ false }
-    requires empty { queue.old.count ≡ 0 }
-    ensures settles { Settles (bare_rule R.below R.alone R.one R.two rule.now) nodes.now chosen.new costs.old costs.new }
-    ensures lent { queue.new.entries.ghost_name ≡ queue.old.entries.ghost_name }
+    requires same { settled.old.nodes ≡ nodes }
+    requires clear { (k : ℕ) → chosen_at settled.old.chosen k ≡ None }
+    requires wide { length settled.old.chosen ≡ 1024 }
+    requires room { length nodes.rows.now ≤ length waiting.old }
+    ensures lent { settled.new.costs.ghost_name ≡ settled.old.costs.ghost_name }
+    ensures settles { Settles (bare_rule R.below R.alone R.one R.two rule.now) nodes.entry.rows.now settled.new.chosen settled.old.costs.now settled.new.costs.now }
+    ensures nodes { settled.new.nodes ≡ settled.old.nodes }
 {
-    offer_chain(nodes, rule, costs, chosen, left, 0, queue, queued);
-    while let Some(e) = queue.pop(rule) {
-        if is_settled(nodes, chosen, e.node) {
+    let left = Chains::of(nodes, Side::Left);
+    let right = Chains::of(nodes, Side::Right);
+    let mut ready: Waiting<'_, R> = Waiting::none(nodes, waiting);
+    ready.offer_all(rule, settled);
+    while let Some(e) = ready.pop(rule) {
+        if settled.is_settled(e.node) {
             continue;
         }
-        let k = choose(nodes, costs, chosen, e);
-        offer_chain(nodes, rule, costs, chosen, left, k + 1, queue, queued);
-        offer_chain(nodes, rule, costs, chosen, right, k + 1, queue, queued);
+        let k = settled.choose(e);
+        ready.offer_chain(rule, settled, &left, k);
+        ready.offer_chain(rule, settled, &right, k);
     }
 }
 
-// settles every class: `chosen` then has 1 more than the choice of each class, and `costs` what each class costs
+// settles every class: answers the choice of each, and `costs` then has what each costs
 pub(crate) fn settle<R: PriceRule>(
-    nodes: &[Row],
+    nodes: Nodes<'_>,
     rule: &R,
     costs: &mut [R::Cost],
     waiting: &mut [Entry<R::Cost>],
-    chosen: &mut [u16],
-)
-    requires fit { Fit nodes.now }
-    requires room { (length nodes.now ≤ length costs.old) × (length nodes.now ≤ length waiting.old) × (length nodes.now ≤ length chosen.old) }
-    requires clear { (k : ℕ) → k < length nodes.now → slice_index chosen.old k ≡ 0 }
-    ensures { Settles (bare_rule R.below R.alone R.one R.two rule.now) nodes.now chosen.new costs.old costs.new }
+) -> [Option<u16>; 1024]
+    requires { (length nodes.rows.now ≤ length costs.old) × (length nodes.rows.now ≤ length waiting.old) }
+    ensures settles { Settles (bare_rule R.below R.alone R.one R.two rule.now) nodes.entry.rows.now result costs.old costs.new }
+    ensures choices { ChoicesIn (length nodes.entry.rows.now) result }
 {
-    let count = nodes.len();
-    let mut left_keys = [0; 1024];
-    let mut right_keys = [0; 1024];
-    fill_keys(nodes, &mut left_keys, &mut right_keys);
-    let mut left_first = [0; 1025];
-    let mut left_next = [0; 1024];
-    link(&left_keys, count, &mut left_first, &mut left_next);
-    let mut right_first = [0; 1025];
-    let mut right_next = [0; 1024];
-    link(&right_keys, count, &mut right_first, &mut right_next);
-    let left = Chains {
-        first: &left_first,
-        next: &left_next,
-    };
-    let right = Chains {
-        first: &right_first,
-        next: &right_next,
-    };
-    let mut queued = [false; 1024];
-    let mut queue = Queue::over(waiting);
-    stages(
-        nodes,
-        rule,
-        left,
-        right,
-        costs,
-        chosen,
-        &mut queue,
-        &mut queued,
-    );
+    let mut settled = Settled::none(nodes, costs);
+    stages(nodes, &mut settled, rule, waiting);
+    settled.chosen
 }

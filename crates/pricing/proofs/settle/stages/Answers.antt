@@ -1,142 +1,160 @@
 -- The loop over the queue.
-use Rattle.std.proofs.Common.{length, arith}
+use Rattle.std.proofs.Common.{◌≡◌, List, Bool, Option, ℕ, length, ap, ◌∙◌, sym, refl, subst, arith, length-set}
+use Rattle.theory.specs.Steps.{falses}
+use Rattle.book.specs.declared.nodes.Nodes.{Nodes}
+use Rattle.pricing.specs.declared.chain.Side.TheVariants.{Left, Right}
 use Rattle.pricing.specs.Nodes.{bare_rule}
-use Rattle.pricing.specs.Chains.{left_key, right_key}
-use Rattle.pricing.proofs.Settles.{begun, fewer_waits, node_in, passed_over, taken_up, ended}
+use Rattle.pricing.specs.Chains.{key, Chained, Linked}
+use Rattle.pricing.specs.Offers.{flag}
+use Rattle.pricing.proofs.Settles.{Between, begun, offers_on, node_in_settled, passed_over, taken_up, ended}
 use Rattle.pricing.proofs.settle.stages.Goals as goal
 
 pub loop-e-init : goal.loop-e-init
 loop-e-init g c =
     let P = g.R.PriceRule in
     let rule = bare_rule P.below P.alone P.one P.two c.args.rule.now in
-    let e = c.offer_chain.ensures in
-    begun c.args.nodes.now c.requires.fit rule c.args.chosen.now c.args.costs.now c.args.queued.now c.offer_chain.new.queued
-    c.args.queue.now c.offer_chain.new.queue c.requires.clear c.requires.low c.requires.empty e.waits e.offered
-    (e.seen (left_key c.args.nodes.now) c.requires.left)
+    let s = c.args.settled.now in
+    let w = c.none-ready.result in
+    let v = c.none-ready.ensures in
+    let w' = c.offer_all.new.self in
+    let o = c.offer_all.ensures in
+    record {
+      lent = refl;
+      between = begun c.args.nodes rule s w.queued w'.queued w.queue w'.queue c.requires.same c.requires.clear v.low v.empty o.offered
+          (λ i h t. o.seen i h);
+      same = o.nodes ∙ v.nodes ∙ sym c.requires.same;
+      wide = c.requires.wide;
+    }
 
 pub is_settled-requires : goal.is_settled-requires
 is_settled-requires g c =
     let P = g.R.PriceRule in
-    let rule = bare_rule P.below P.alone P.one P.two c.args.rule.now in
-    record {
-      fit = c.requires.fit;
-      room = omega (arith, c.requires.room.1, c.loop-e.auto.chosen);
-      here = node_in c.args.nodes.now c.requires.fit rule c.loop-e.chosen c.args.costs.now c.loop-e.costs c.loop-e.queued c.loop-e.queue
-          c.offer_chain.new.queue.entries.ghost_name c.loop-e.invariant
-          c.in-Some.e c.pop.new.self c.in-Some.ensures.after;
-    }
+    let s = c.loop-e.settled in
+    let w = c.loop-e.ready in
+    node_in_settled c.args.nodes (bare_rule P.below P.alone P.one P.two c.args.rule.now) c.args.settled.now.costs.now c.args.settled.now.costs.ghost_name
+    s w.queued w.queue c.loop-e.invariant.between c.in-Some.e c.pop.new.self.queue c.in-Some.ensures.after
+
+pub choose-k-requires : goal.choose-k-requires
+choose-k-requires g c =
+    let P = g.R.PriceRule in
+    let s = c.loop-e.settled in
+    let w = c.loop-e.ready in
+    node_in_settled c.args.nodes (bare_rule P.below P.alone P.one P.two c.args.rule.now) c.args.settled.now.costs.now c.args.settled.now.costs.ghost_name
+    s w.queued w.queue c.loop-e.invariant.between c.in-Some.e c.pop.new.self.queue c.in-Some.ensures.after
+
+pub loop-e-smaller-then-is_settled : goal.loop-e-smaller-then-is_settled
+loop-e-smaller-then-is_settled g c =
+    let o = c.in-Some.ensures in
+    omega (arith, o.after.count, ap (λ (F : List Bool). falses (flag F) (length c.args.nodes.rows.now)) o.queued)
 
 pub loop-e-preserved-then-is_settled : goal.loop-e-preserved-then-is_settled
 loop-e-preserved-then-is_settled g c =
     let P = g.R.PriceRule in
     let rule = bare_rule P.below P.alone P.one P.two c.args.rule.now in
-    let l = c.loop-e in
+    let lent = c.args.settled.now.costs.ghost_name in
+    let s = c.loop-e.settled in
+    let w = c.loop-e.ready in
+    let w' = c.pop.new.self in
+    let I = c.loop-e.invariant in
     let o = c.in-Some.ensures in
-    let B = l.invariant in
-    let W = fewer_waits P.below (length c.args.nodes.now) l.queued l.queue c.pop.new.self c.in-Some.e B.waits o.after
-    (o.order B.waits.order) o.room in
-    passed_over c.args.nodes.now c.requires.fit rule l.chosen c.args.costs.now l.costs l.queued l.queue
-    c.offer_chain.new.queue.entries.ghost_name B c.in-Some.e c.pop.new.self o.after W c.if-is_settled.ensures o.lent
-
-pub choose-k-requires : goal.choose-k-requires
-choose-k-requires g c =
-    let P = g.R.PriceRule in
-    let rule = bare_rule P.below P.alone P.one P.two c.args.rule.now in
+    let B : Between rule c.args.nodes c.args.settled.now.costs.now lent s w'.queued w.queue
+    = subst (λ (F : List Bool). Between rule c.args.nodes c.args.settled.now.costs.now lent s F w.queue) (sym o.queued) I.between in
     record {
-      fit = c.requires.fit;
-      room = (omega (arith, c.requires.room.0, c.loop-e.auto.costs), omega (arith, c.requires.room.1, c.loop-e.auto.chosen));
-      here = node_in c.args.nodes.now c.requires.fit rule c.loop-e.chosen c.args.costs.now c.loop-e.costs c.loop-e.queued c.loop-e.queue
-          c.offer_chain.new.queue.entries.ghost_name c.loop-e.invariant
-          c.in-Some.e c.pop.new.self c.in-Some.ensures.after;
+      lent = I.lent;
+      between = passed_over c.args.nodes rule c.args.settled.now.costs.now lent s w'.queued w.queue B c.in-Some.e w'.queue o.after c.if-is_settled.ensures;
+      same = o.nodes ∙ I.same;
+      wide = I.wide;
     }
 
-pub overflow_add-k : goal.overflow_add-k
-overflow_add-k g c =
+pub offer_chain-requires : goal.offer_chain-requires
+offer_chain-requires g c =
     let P = g.R.PriceRule in
-    let rule = bare_rule P.below P.alone P.one P.two c.args.rule.now in
-    let h = node_in c.args.nodes.now c.requires.fit rule c.loop-e.chosen c.args.costs.now c.loop-e.costs c.loop-e.queued c.loop-e.queue
-    c.offer_chain.new.queue.entries.ghost_name c.loop-e.invariant
-    c.in-Some.e c.pop.new.self c.in-Some.ensures.after in
-    omega (arith, c.choose-k.ensures.within, c.requires.fit.few)
+    let s = c.loop-e.settled in
+    let w = c.loop-e.ready in
+    let I = c.loop-e.invariant in
+    let u = c.choose-k.ensures in
+    let few = s.nodes.few in
+    let h = node_in_settled c.args.nodes (bare_rule P.below P.alone P.one P.two c.args.rule.now) c.args.settled.now.costs.now c.args.settled.now.costs.ghost_name
+    s w.queued w.queue I.between c.in-Some.e c.pop.new.self.queue c.in-Some.ensures.after in
+    record {
+      same = c.in-Some.ensures.nodes ∙ I.same ∙ sym u.nodes;
+      chained = subst (λ (M : Nodes). Chained (length M.rows.now) c.of-left.result.first c.of-left.result.next) (sym (u.nodes ∙ I.between.nodes))
+          c.of-left.ensures.chained;
+      class = omega (arith, u.within, h, few);
+    }
 
 pub offer_chain-requires-in-Some : goal.offer_chain-requires-in-Some
 offer_chain-requires-in-Some g c =
     let P = g.R.PriceRule in
+    let s = c.loop-e.settled in
+    let w = c.loop-e.ready in
+    let I = c.loop-e.invariant in
+    let u = c.choose-k.ensures in
+    let few = s.nodes.few in
+    let h = node_in_settled c.args.nodes (bare_rule P.below P.alone P.one P.two c.args.rule.now) c.args.settled.now.costs.now c.args.settled.now.costs.ghost_name
+    s w.queued w.queue I.between c.in-Some.e c.pop.new.self.queue c.in-Some.ensures.after in
+    record {
+      same = c.offer_chain.ensures.nodes ∙ c.in-Some.ensures.nodes ∙ I.same ∙ sym u.nodes;
+      chained = subst (λ (M : Nodes). Chained (length M.rows.now) c.of-right.result.first c.of-right.result.next) (sym (u.nodes ∙ I.between.nodes))
+          c.of-right.ensures.chained;
+      class = omega (arith, u.within, h, few);
+    }
+
+pub loop-e-smaller : goal.loop-e-smaller
+loop-e-smaller g c =
+    let P = g.R.PriceRule in
     let rule = bare_rule P.below P.alone P.one P.two c.args.rule.now in
-    let l = c.loop-e in
     let o = c.in-Some.ensures in
-    let B = l.invariant in
-    let h = node_in c.args.nodes.now c.requires.fit rule l.chosen c.args.costs.now l.costs l.queued l.queue
-    c.offer_chain.new.queue.entries.ghost_name B c.in-Some.e c.pop.new.self o.after in
-    record {
-      fit = c.requires.fit;
-      room = (
-        omega (arith, c.requires.room.0, l.auto.costs, c.choose-k.auto.costs),
-        omega (arith, c.requires.room.1, l.auto.chosen, c.choose-k.auto.chosen),
-      );
-      chained = c.requires.left.chained;
-      key = (omega (arith, c.choose-k.ensures.within, c.requires.fit.few, c.requires.first.0), c.requires.next.0);
-      waits = fewer_waits P.below (length c.args.nodes.now) l.queued l.queue c.pop.new.self c.in-Some.e B.waits o.after
-          (o.order B.waits.order) o.room;
-    }
-
-pub overflow_add-k-in-Some : goal.overflow_add-k-in-Some
-overflow_add-k-in-Some g c =
-    let P = g.R.PriceRule in
-    let rule = bare_rule P.below P.alone P.one P.two c.args.rule.now in
-    let h = node_in c.args.nodes.now c.requires.fit rule c.loop-e.chosen c.args.costs.now c.loop-e.costs c.loop-e.queued c.loop-e.queue
-    c.offer_chain.new.queue.entries.ghost_name c.loop-e.invariant
-    c.in-Some.e c.pop.new.self c.in-Some.ensures.after in
-    omega (arith, c.choose-k.ensures.within, c.requires.fit.few)
-
-pub offer_chain-requires-in-Some-2 : goal.offer_chain-requires-in-Some-2
-offer_chain-requires-in-Some-2 g c =
-    let P = g.R.PriceRule in
-    let rule = bare_rule P.below P.alone P.one P.two c.args.rule.now in
-    let l = c.loop-e in
-    let h = node_in c.args.nodes.now c.requires.fit rule l.chosen c.args.costs.now l.costs l.queued l.queue
-    c.offer_chain.new.queue.entries.ghost_name l.invariant
-    c.in-Some.e c.pop.new.self c.in-Some.ensures.after in
-    record {
-      fit = c.requires.fit;
-      room = (
-        omega (arith, c.requires.room.0, l.auto.costs, c.choose-k.auto.costs),
-        omega (arith, c.requires.room.1, l.auto.chosen, c.choose-k.auto.chosen),
-      );
-      chained = c.requires.right.chained;
-      key = (omega (arith, c.choose-k.ensures.within, c.requires.fit.few, c.requires.first.1), c.requires.next.1);
-      waits = c.offer_chain-in-Some.ensures.waits;
-    }
+    let s' = c.choose-k.new.self in
+    let w' = c.pop.new.self in
+    let w₁ = c.offer_chain.new.self in
+    let w₂ = c.offer_chain-in-Some.new.self in
+    let e : s'.nodes ≡ c.args.nodes = c.choose-k.ensures.nodes ∙ c.loop-e.invariant.between.nodes in
+    let O₁ = offers_on c.args.nodes rule s' w'.queued w₁.queued w'.queue w₁.queue e c.offer_chain.ensures.offered in
+    let O₂ = offers_on c.args.nodes rule s' w₁.queued w₂.queued w₁.queue w₂.queue e c.offer_chain-in-Some.ensures.offered in
+    omega (arith, O₁.count, O₂.count, o.after.count, ap (λ (F : List Bool). falses (flag F) (length c.args.nodes.rows.now)) o.queued)
 
 pub loop-e-preserved : goal.loop-e-preserved
 loop-e-preserved g c =
     let P = g.R.PriceRule in
     let rule = bare_rule P.below P.alone P.one P.two c.args.rule.now in
-    let xs = c.args.nodes.now in
-    let l = c.loop-e in
+    let N = c.args.nodes in
+    let xs = N.rows.now in
+    let lent = c.args.settled.now.costs.ghost_name in
+    let s = c.loop-e.settled in
+    let w = c.loop-e.ready in
+    let I = c.loop-e.invariant in
     let o = c.in-Some.ensures in
-    let B = l.invariant in
-    let e₁ = c.offer_chain-in-Some.ensures in
-    let e₂ = c.offer_chain-in-Some-2.ensures in
-    taken_up xs c.requires.fit rule l.chosen c.args.costs.now l.costs l.queued l.queue
-    c.offer_chain.new.queue.entries.ghost_name B c.in-Some.e c.pop.new.self o.after (o.first B.waits.order) c.if-is_settled.ensures
-    (omega (arith, c.requires.room.1, l.auto.chosen)) (omega (arith, c.requires.room.0, l.auto.costs))
-    c.choose-k.new.chosen c.choose-k.new.costs c.choose-k.ensures.after c.choose-k.result c.choose-k.ensures.value
-    c.offer_chain-in-Some.new.queued c.offer_chain-in-Some-2.new.queued c.offer_chain-in-Some.new.queue c.offer_chain-in-Some-2.new.queue
-    e₁.offered e₂.offered
-    (e₁.seen (left_key xs) c.requires.left)
-    (e₂.seen (right_key xs) c.requires.right)
-    e₂.waits o.lent e₁.lent e₂.lent
+    let u = c.choose-k.ensures in
+    let few = N.few in
+    let s' = c.choose-k.new.self in
+    let w' = c.pop.new.self in
+    let w₁ = c.offer_chain.new.self in
+    let w₂ = c.offer_chain-in-Some.new.self in
+    let e₁ = c.offer_chain.ensures in
+    let e₂ = c.offer_chain-in-Some.ensures in
+    let e : s'.nodes ≡ N = u.nodes ∙ I.between.nodes in
+    let left = subst (λ (M : Nodes). Linked (length M.rows.now) (key Left xs) c.of-left.result.first c.of-left.result.next) (sym e) c.of-left.ensures in
+    let right = subst (λ (M : Nodes). Linked (length M.rows.now) (key Right xs) c.of-right.result.first c.of-right.result.next) (sym e) c.of-right.ensures in
+    let B : Between rule N c.args.settled.now.costs.now lent s w'.queued w.queue
+    = subst (λ (F : List Bool). Between rule N c.args.settled.now.costs.now lent s F w.queue) (sym o.queued) I.between in
+    record {
+      lent = u.lent ∙ I.lent;
+      between = taken_up N rule c.args.settled.now.costs.now lent s w'.queued w.queue B c.in-Some.e w'.queue o.after o.first c.if-is_settled.ensures
+          (omega (arith, few, I.wide)) s' u.after u.nodes u.lent c.choose-k.result u.value w₁.queued w₂.queued w₁.queue w₂.queue e₁.offered e₂.offered
+          (e₁.seen (key Left xs) left) (e₂.seen (key Right xs) right);
+      same = e₂.nodes ∙ e₁.nodes ∙ o.nodes ∙ I.same ∙ sym u.nodes;
+      wide = omega (arith, ap length u.after.chosen, length-set {A = Option ℕ}, I.wide);
+    }
 
 pub returns : goal.returns
 returns g c =
     let P = g.R.PriceRule in
-    let rule = bare_rule P.below P.alone P.one P.two c.args.rule.now in
-    let l = c.loop-e in
-    let o = c.in_default.ensures in
-    let B = l.invariant in
+    let w = c.loop-e.ready in
+    let I = c.loop-e.invariant in
     record {
-      settles = ended c.args.nodes.now c.requires.fit rule l.chosen c.args.costs.now l.costs l.queued l.queue
-          c.offer_chain.new.queue.entries.ghost_name B (o.first B.waits.order);
-      lent = omega (arith, o.lent, B.over, c.offer_chain.ensures.lent);
+      settles = ended c.args.nodes (bare_rule P.below P.alone P.one P.two c.args.rule.now) c.args.settled.now.costs.now
+          c.args.settled.now.costs.ghost_name c.loop-e.settled w.queued w.queue I.between w.waits.order.0 c.in_default.ensures.first;
+      nodes = I.between.nodes ∙ sym c.requires.same;
+      lent = I.lent;
     }

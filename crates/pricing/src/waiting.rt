@@ -1,0 +1,100 @@
+// The nodes that wait to be chosen: each is put into the queue once, when its parts' classes are settled.
+ghost use Rattle.std.specs.Prelude.{◌≡◌, ℕ, ◌<◌, ◌≤◌, true, false, length, MatchOption, Option};
+ghost use Rattle.queue.specs.Queues.{held, First, Idle, Same, Popped};
+ghost use Rattle.pricing.specs.Nodes.{ready_at, bare_rule};
+ghost use Rattle.pricing.specs.Chains.{Chained, Linked};
+ghost use Rattle.pricing.specs.Offers.{Waits, Offers, flag};
+
+use crate::chain::Chains;
+use crate::settled::Settled;
+use book::nodes::Nodes;
+use price::rule::PriceRule;
+use queue::{Entry, Queue};
+
+/// The queue, by a rule that is lent to each call, and which of the nodes were put into it. What is settled stands beside it and not in
+/// one struct with it: of a `&mut` in a struct in a struct its lender does not learn what it held last.
+#[derive(Drop)]
+pub(crate) struct Waiting<'a, R: PriceRule> {
+    nodes: Nodes<'a>,
+    queue: Queue<'a, R::Cost>,
+    queued: [bool; 1024],
+    ghost waits: { Waits R.below (length nodes.rows.now) queued queue },
+}
+
+impl<'a, R: PriceRule> Waiting<'a, R> {
+    // none of the nodes waits yet
+    pub(crate) fn none(nodes: Nodes<'a>, waiting: &'a mut [Entry<R::Cost>]) -> Self
+        requires { length nodes.rows.now ≤ length waiting.old }
+        ensures nodes { result.nodes ≡ nodes.entry }
+        ensures empty { result.queue.count ≡ 0 }
+        ensures low { (i : ℕ) → flag result.queued i ≡ false }
+    {
+        Waiting {
+            nodes,
+            queue: Queue::over(waiting),
+            queued: [false; 1024],
+        }
+    }
+}
+
+impl<R: PriceRule> Waiting<'_, R> {
+    // puts the node i into the queue if its parts' classes are settled and it was not put there before
+    fn offer(&mut self, rule: &R, settled: &Settled<'_, R::Cost>, i: usize)
+        requires same { self.old.nodes ≡ settled.now.nodes }
+        requires here { i < length settled.now.nodes.rows.now }
+        ensures nodes { self.new.nodes ≡ self.old.nodes }
+        ensures offered { Offers (bare_rule R.below R.alone R.one R.two rule.now) settled.now self.old.queued self.new.queued self.old.queue self.new.queue }
+        ensures seen { ready_at settled.now.nodes.rows.now settled.now.chosen i ≡ true → flag self.new.queued i ≡ true }
+    {
+        if self.queued[i] || !settled.is_ready(i) {
+            return;
+        }
+        let cost = settled.cost_of(rule, i);
+        self.queued[i] = true;
+        self.queue.push(rule, Entry { cost, node: i });
+    }
+
+    // takes out the node that goes first; none where none waits
+    pub(crate) fn pop(&mut self, rule: &R) -> Option<Entry<R::Cost>>
+        ensures nodes { self.new.nodes ≡ self.old.nodes }
+        ensures queued { self.new.queued ≡ self.old.queued }
+        ensures after { MatchOption result (Idle self.old.queue × Same self.old.queue self.new.queue) (λ x. Popped x self.old.queue self.new.queue) }
+        ensures first { MatchOption result (self.old.queue.count ≡ 0) (λ x. First R.below x (held self.old.queue)) }
+    {
+        self.queue.pop(rule)
+    }
+
+    // offers every node
+    pub(crate) fn offer_all(&mut self, rule: &R, settled: &Settled<'_, R::Cost>)
+        requires { self.old.nodes ≡ settled.now.nodes }
+        ensures nodes { self.new.nodes ≡ self.old.nodes }
+        ensures offered { Offers (bare_rule R.below R.alone R.one R.two rule.now) settled.now self.old.queued self.new.queued self.old.queue self.new.queue }
+        ensures seen { (i : ℕ) → i < length settled.now.nodes.rows.now → ready_at settled.now.nodes.rows.now settled.now.chosen i ≡ true → flag self.new.queued i ≡ true }
+    {
+        for i in 0..settled.nodes.rows.len() {
+            self.offer(rule, settled, i);
+        }
+    }
+
+    // offers each node of the chain of the class k
+    pub(crate) fn offer_chain(
+        &mut self,
+        rule: &R,
+        settled: &Settled<'_, R::Cost>,
+        chains: &Chains,
+        k: usize,
+    )
+        requires same { self.old.nodes ≡ settled.now.nodes }
+        requires chained { Chained (length settled.now.nodes.rows.now) chains.now.first chains.now.next }
+        requires class { k < 1024 }
+        ensures nodes { self.new.nodes ≡ self.old.nodes }
+        ensures offered { Offers (bare_rule R.below R.alone R.one R.two rule.now) settled.now self.old.queued self.new.queued self.old.queue self.new.queue }
+        ensures seen { (by : ℕ → Option ℕ) → Linked (length settled.now.nodes.rows.now) by chains.now.first chains.now.next → (i : ℕ) → i < length settled.now.nodes.rows.now → by i ≡ Some k → ready_at settled.now.nodes.rows.now settled.now.chosen i ≡ true → flag self.new.queued i ≡ true }
+    {
+        let mut at = chains.first[k];
+        while let Some(i) = at {
+            self.offer(rule, settled, i as usize);
+            at = chains.next[i as usize];
+        }
+    }
+}
