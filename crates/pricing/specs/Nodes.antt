@@ -2,7 +2,6 @@
 --
 -- | word        | meaning                                                                            |
 -- |-------------|------------------------------------------------------------------------------------|
--- | nodes_of    | the rows of a table's nodes                                                        |
 -- | table       | the nodes as shapes over bare symbols                                              |
 -- | shape_over  | a name over parts, as a shape                                                      |
 -- | Below       | the parts stand before a node                                                      |
@@ -16,19 +15,15 @@
 -- | ReadsAt     | the value stands at that place                                                     |
 -- | CostIs      | the value is the cost of a node over the costs of its parts' classes               |
 -- | cost_from   | that cost                                                                          |
-use Rattle.std.specs.Prelude.{◌≡◌, ℕ, ◌+◌, ◌<◌, Bool, true, false, cond, List, [], map, get_or, take, Option, Some, None, is_some, slice_index, slice_index_or}
+use Rattle.std.specs.Prelude.{◌≡◌, ℕ, ◌+◌, ◌<◌, Bool, true, false, cond, List, [], map, get_or, Option, Some, None, is_some, slice_index, slice_index_or}
 use Rattle.theory.specs.Names.{Name}
 use Rattle.theory.specs.Tables.{Shape, atom, unary, binary, Table as Shapes, shape_at}
 use Rattle.theory.specs.Costs.{Rule, cost_over}
 use Rattle.price.specs.Rules.{rule_of}
 use Rattle.book.specs.declared.row.Row.{Row}
-use Rattle.book.specs.declared.table.Table.{Table}
 use Rattle.book.specs.declared.id.Parts.{Parts}
 use Rattle.book.specs.declared.id.Parts.TheVariants.{Zero, One, Two}
 use Rattle.book.specs.Rows.{class, shape_of, bare}
-
-abbrev pub nodes_of : Table → List Row
-nodes_of t = take t.nodes t.rows.now
 
 abbrev pub table : List Row → Shapes
 table xs = map (λ (r : Row). shape_of bare r.node) xs

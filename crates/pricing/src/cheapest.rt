@@ -43,7 +43,7 @@ pub fn price<R: PriceRule>(
 {
     let nodes = book.table.nodes;
     if !long_enough(costs.len(), waiting.len(), nodes) {
-        return Err(Layer::Book(BookCause::TooShort));
+        return Err(BookCause::TooShort.into());
     }
     let chosen = settle(book.nodes(), rule, costs, waiting);
     store(&mut book.table, &chosen, costs);

@@ -1,9 +1,10 @@
 -- A table is too short, or the classes are settled and the choices stored.
 use Rattle.std.proofs.Common.{ℕ, List, length, refl, sym, ap, ◌∙◌, subst, arith}
+use Rattle.text.specs.Causes.{number_of}
 use Rattle.theory.specs.Costs.{cheaper_by}
 use Rattle.theory.specs.Books.{symbol_of, equations_in}
 use Rattle.theory.specs.Spelling.{CheapestBuilds}
-use Rattle.theory.specs.Calls.{Pricing, granted}
+use Rattle.theory.specs.Calls.{Pricing, granted, refused}
 use Rattle.price.proofs.Rules.{costed}
 use Rattle.book.specs.declared.row.Row.{Row}
 use Rattle.book.specs.Layout.{Contents, state_of, Relaid}
@@ -24,7 +25,9 @@ returns-then-not-long_enough g c =
     let s = contents c.args.book.now.table in
     let K = sound_of s c.args.book.now.holds in
     record {
-      answer = too_short s K _ (length c.args.costs.now) (length c.args.waiting.now) c.if-not-long_enough.ensures;
+      answer = subst (λ (n : ℕ). Pricing (state_of s) (cheaper_by (book_rule P.below P.alone P.one P.two c.args.rule.now (state_of s)))
+          (length c.args.costs.now) (length c.args.waiting.now) (refused n) (state_of s)) (sym (ap number_of c.into.ensures))
+          (too_short s K _ (length c.args.costs.now) (length c.args.waiting.now) c.if-not-long_enough.ensures);
       lawful = (costed P.fits P.below P.alone P.one P.two c.args.rule.now (symbol_of (state_of s).names) m.fitting m.order m.growth m.weight).laws;
       costs = tt;
       cheapest = tt;
