@@ -6,7 +6,7 @@ use Rattle.std.proofs.lemmas.Bool.{cond-true, cond-false}
 use Rattle.std.proofs.lemmas.Bool.Decides.{nat_tests}
 use Rattle.text.specs.declared.cause.BookCause.TheVariants.{ListFull}
 use Rattle.price.specs.Finding.{NotBefore, Nowhere, FirstAt}
-use Rattle.price.specs.Lists.{listed, is_for, value_of, Putting, no_room, renewed, entered, Revalued}
+use Rattle.price.specs.Lists.{listed, is_for, value_of, Valuing, no_room, renewed, entered, Revalued}
 use Rattle.price.specs.declared.list.Listed.{Listed}
 use Rattle.price.proofs.Finding.{first_at, nowhere, tail}
 
@@ -57,7 +57,7 @@ module _ {V : Type 0} where
   module _ (rs : List (Option (Listed V))) (x : ℕ) (v : V) where
     -- p is the symbol's row, and q the first that is free
     pub put : (p q : Option ℕ) (i : ℕ) (r : Option (Listed V)) → p ≡ position (is_for x) rs → q ≡ position is_none rs → option_or p q ≡ Some i
-        → r ≡ listed x v → Putting rs x v (Ok tt) (set rs i r)
+        → r ≡ listed x v → Valuing rs x v (Ok tt) (set rs i r)
     put None q i r a b e is = entered i (nowhere (is_for x) rs (sym a)) (first_at is_none rs i (sym b ∙ e)) refl (ap (set rs i) is)
     put (Some j) q i r a b e is = renewed i (first_at (is_for x) rs i (sym a ∙ e)) refl (ap (set rs i) is)
 
@@ -72,6 +72,6 @@ module _ {V : Type 0} where
         let f = first_at (is_for x) rs i (sym a ∙ e) in
         subst (λ w. Revalued rs x v (set rs i w)) (sym is) (given rs i x v None f.within f.before (open_listed x _ (f.here None)))
 
-    pub refused : (p q : Option ℕ) → p ≡ position (is_for x) rs → q ≡ position is_none rs → option_or p q ≡ None → Putting rs x v (Err ListFull) rs
+    pub refused : (p q : Option ℕ) → p ≡ position (is_for x) rs → q ≡ position is_none rs → option_or p q ≡ None → Valuing rs x v (Err ListFull) rs
     refused None q a b e = no_room (nowhere (is_for x) rs (sym a)) (nowhere is_none rs (sym b ∙ e)) refl refl
     refused (Some j) q a b e = absurd (cc)

@@ -5,7 +5,7 @@
 -- | listed   | the row that lists a symbol with a value                                     |
 -- | is_for   | the row lists the symbol                                                     |
 -- | value_of | the value in the first row that lists the symbol, and none where none does   |
--- | Putting  | what giving a symbol a value answers, and which list it leaves               |
+-- | Valuing  | what giving a symbol a value answers, and which list it leaves               |
 -- | Revalued | that symbol has the new value, and every other symbol has what it had        |
 use Rattle.std.specs.Prelude.{◌≡◌, ℕ, Bool, false, cond, List, [], ◌∷◌, Option, Some, None, is_none, Ok, Err, Result, ◌==◌, slice_set}
 use Rattle.std.specs.Option.{option_map}
@@ -26,10 +26,10 @@ value_of [] x = None
 value_of (row ∷ rows) x = cond (is_for x row) (option_map (λ r. r.value) row) (value_of rows x)
 
 -- a refusal leaves the list as it was, and a grant changes one row
-pub data Putting {V : Type 0} (rows : List (Option (Listed V))) (x : ℕ) (v : V) (answer : Result (Unit {0}) BookCause) (after : List (Option (Listed V))) : Type 0 where
-  no_room : Nowhere (is_for x) rows → Nowhere is_none rows → answer ≡ Err ListFull → after ≡ rows → Putting rows x v answer after
-  renewed : (i : ℕ) → FirstAt (is_for x) rows i → answer ≡ Ok tt → after ≡ slice_set rows i (listed x v) → Putting rows x v answer after
-  entered : (i : ℕ) → Nowhere (is_for x) rows → FirstAt is_none rows i → answer ≡ Ok tt → after ≡ slice_set rows i (listed x v) → Putting rows x v answer after
+pub data Valuing {V : Type 0} (rows : List (Option (Listed V))) (x : ℕ) (v : V) (answer : Result (Unit {0}) BookCause) (after : List (Option (Listed V))) : Type 0 where
+  no_room : Nowhere (is_for x) rows → Nowhere is_none rows → answer ≡ Err ListFull → after ≡ rows → Valuing rows x v answer after
+  renewed : (i : ℕ) → FirstAt (is_for x) rows i → answer ≡ Ok tt → after ≡ slice_set rows i (listed x v) → Valuing rows x v answer after
+  entered : (i : ℕ) → Nowhere (is_for x) rows → FirstAt is_none rows i → answer ≡ Ok tt → after ≡ slice_set rows i (listed x v) → Valuing rows x v answer after
 
 abbrev pub Revalued : {V : Type 0} → List (Option (Listed V)) → ℕ → V → List (Option (Listed V)) → Type 0
 Revalued rows x v after = (y : ℕ) → value_of after y ≡ cond (y == x) (Some v) (value_of rows y)

@@ -1,6 +1,6 @@
 // A list of up to 64 symbols, each with a value: what the bill and the stock hold.
 ghost use Rattle.std.specs.Prelude.{◌≡◌, ◌<◌, IfSome, MatchResult, is_none, position, replicate, ⊤};
-ghost use Rattle.price.specs.Lists.{is_for, value_of, Putting, Revalued};
+ghost use Rattle.price.specs.Lists.{is_for, value_of, Valuing, Revalued};
 
 use std::alloc::AllocError;
 use text::cause::BookCause;
@@ -64,7 +64,7 @@ impl<V: Copy> List<V> {
 
     /// Gives a symbol a value: in its row where it is listed, else in the first free row.
     pub fn set(&mut self, symbol: u32, value: V) -> Result<(), BookCause>
-        ensures after { Putting self.old.rows symbol value result self.new.rows }
+        ensures after { Valuing self.old.rows symbol value result self.new.rows }
         ensures value { MatchResult result (λ _. Revalued self.old.rows symbol value self.new.rows) (λ _. self.new.rows ≡ self.old.rows) }
     {
         let place = self.row_for(symbol).or(self.free_row());
