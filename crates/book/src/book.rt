@@ -8,6 +8,7 @@ use crate::making::clear;
 use crate::row::Row;
 use crate::table::Table;
 
+// `laid` and `lent` stand at each call: they relate the rows before it to the rows after it, which no type says.
 #[derive(Drop)]
 pub struct Book<'a> {
     pub table: Table<'a>,

@@ -9,6 +9,7 @@ use crate::room::MOST;
 use crate::row::Row;
 
 /// The rows of the nodes while classes are made one, and a mark for each class that nodes must still be compared for.
+// The marks are an array beside the rows: what a row holds is promised, and nothing is allocated.
 #[derive(Drop)]
 struct Classes<'a> {
     rows: &'a mut [Row],
@@ -31,6 +32,8 @@ fn relabel(rows: &mut [Row], keep: u16, gone: u16)
 }
 
 // Each call says that the rows are those lent (`lent`): by that alone a proof knows afterwards what became of what was lent.
+// `turned` says how rows and marks changed, a relation of before and after. Places are numbers: a place that borrows the rows could not
+// stand while a step changes them.
 impl Classes<'_> {
     // the nodes as they stand
     fn nodes(&self) -> Nodes<'_>
@@ -137,7 +140,7 @@ pub(crate) fn accept(rows: &mut [Row], a: usize, b: usize)
     classes.close();
 }
 
-// ends a pricing in force over the nodes' rows
+// ends a pricing in force over the nodes' rows; whether there is one is asked here once, and not by both callers
 pub(crate) fn unprice(rows: &mut [Row], priced: bool)
     requires { Unpriced rows.old (length rows.old) priced }
     ensures { Unchosen rows.old rows.new (length rows.old) }

@@ -15,7 +15,7 @@ use crate::room::usable;
 use crate::row::{Node, Row, Signature};
 use text::cause::{BookCause, Layer};
 
-// the node that is asked for, in a class of its own
+// the node that is asked for, in a class of its own; as the promised layout of rows has it, parts are counted, and a missing one is 0
 fn wanted(symbol: usize, parts: Parts, nodes: usize) -> Node
     requires { (symbol < 1024) × (nodes ≤ 1024) × Within parts nodes }
     ensures { result ≡ new_node symbol parts nodes }

@@ -5,7 +5,7 @@ ghost use Rattle.book.specs.Changes.{Cleared};
 use crate::room::usable;
 use crate::row::{Equation, Node, Row};
 
-// a row that holds nothing
+// a row that holds nothing; written out, since a derived `Default` is no constant
 const BLANK: Row = Row {
     name: [0; 12],
     node: Node {

@@ -15,7 +15,8 @@ pub struct Nodes<'a> {
     ghost based: { Based rows.now (length rows.now) },
 }
 
-// That a place is one of the nodes' stands at each call: a number has no type that says of which slice it is a place.
+// That a place is one of the nodes' stands at each call: who calls counts places while the rows change, so a struct of rows and place, as
+// `listing` has, would be made anew at each.
 impl Nodes<'_> {
     // what makes the node i congruent to another
     fn signature(&self, i: usize) -> Signature

@@ -24,6 +24,7 @@ const ROW: usize = 512;
 struct Session<'a> {
     log: &'a [u8],
     sheet: &'a [u8],
+    // counted by hand, over both texts
     lines: usize,
     faults: usize,
 }
@@ -46,6 +47,7 @@ fn read_text<'a>(rt: &HostRuntime, path: &str, room: &'a mut [u8]) -> &'a [u8] {
 }
 
 /// Sends a printed row out; a row that the buffer is too short for is not printed.
+// A length comes beside the row, since rows are made in lent memory.
 fn send(rt: &HostRuntime, row: &[u8], len: Result<usize, BookCause>) -> io::Result<()>
     requires { IfOk len (λ n. n ≤ length row.now) }
 {
@@ -56,6 +58,7 @@ fn send(rt: &HostRuntime, row: &[u8], len: Result<usize, BookCause>) -> io::Resu
 }
 
 /// Prints a line as it was read.
+// Each kind of row is made where it is sent: a closure that makes it would have to promise how long it is.
 fn say(rt: &HostRuntime, line: &TextLine<'_>, record: &Record<'_>) -> io::Result<()> {
     let mut row = [0; ROW];
     let len = print_line(&mut row, line, record);

@@ -27,6 +27,7 @@ impl<'a> Marking<'a> {
     }
 }
 
+// `pricing` reads classes and parts for itself: in `book` these would be public calls, which may not ask that a place is a node's.
 impl<'a> Place<'a> {
     pub(crate) fn class(self) -> u16
         ensures class { result ≡ class self.entry.marking.nodes.rows.now self.entry.at }
@@ -36,6 +37,7 @@ impl<'a> Place<'a> {
     }
 
     // The part at place i, if the node has so many.
+    // By number, 0 or 1, so that one search goes over both parts.
     pub(crate) fn part(self, i: usize) -> Option<Place<'a>>
         ensures none { IfNone result ((row self.entry.marking.nodes.rows.now self.entry.at).node.parts ≤ i) }
         ensures part { IfSome result (λ p. (p.marking ≡ self.entry.marking) × (i < (row self.entry.marking.nodes.rows.now self.entry.at).node.parts) × (p.at ≡ part_at (row self.entry.marking.nodes.rows.now self.entry.at).node i)) }

@@ -12,6 +12,7 @@ use std::ops::Range;
 use text::cause::{BookCause, Layer};
 
 // The productions of the marked classes that are left: those of a class, by some of the nodes, and those of more classes.
+// A struct of its own, since it is gone over twice: a chain of closures has no type that a function can answer.
 #[derive(Drop)]
 struct Productions<'a> {
     marking: Marking<'a>,

@@ -36,6 +36,7 @@ fn left_over(marks: &[u8]) -> usize {
     marks.iter().filter(|m| **m != 0).count()
 }
 
+// printed here alone, so a production has no `Display`
 fn say(rt: &HostRuntime, out: &[Production]) -> io::Result<()> {
     for p in out {
         println!(rt; "{}: {} {} {} {}", p.of, p.symbol, p.parts, p.left, p.right)?;

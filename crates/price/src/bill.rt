@@ -37,6 +37,7 @@ impl Bill {
         ensures after { Setting self.old.prices.rows symbol price result self.new.prices.rows }
         ensures value { MatchResult result (λ _. Repriced self.old.prices.rows symbol price self.new.prices.rows) (λ _. self.new.prices.rows ≡ self.old.prices.rows) }
     {
+        // as for a price in a line: `records` is no part of what this crate rests on
         if price > 10_000 {
             return Err(FieldCause::Broken.into());
         }

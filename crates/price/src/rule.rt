@@ -34,6 +34,7 @@ pub trait PriceRule: Sized {
     fn cost_two(&self, symbol: u32, left: Self::Cost, right: Self::Cost) -> Self::Cost
         ensures { result ≡ two self.now symbol left right };
 
+    // Each rule says it, though it is `<` in the three supplied here: a rule may order its costs otherwise.
     /// Whether the first cost is below the second.
     fn is_below(&self, a: Self::Cost, b: Self::Cost) -> bool
         ensures { result ≡ below a b };

@@ -74,6 +74,7 @@ fn main(rt: HostRuntime) -> io::Result<()> {
     let mut size = table.len();
     let mut shape = Shape::Apart;
     let mut rule = None;
+    // as in `bookbench`, and the rule besides: a shared loop would need a case for what one of the two does not know
     for word in env::args(&rt)? {
         let word = word.as_str();
         if let Ok(rows) = word.parse::<usize>() {

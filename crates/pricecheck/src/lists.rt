@@ -26,6 +26,7 @@ pub fn priced() -> [Shown; 6] {
 // The prices 100, 101, .. of the symbols from 0 on, added up.
 fn fill_bill(bill: &mut Bill, count: u32) -> Result<u32, Layer> {
     let mut sum: u32 = 0;
+    // a loop: each step changes the bill and asks it
     for i in 0..count {
         bill.set(i, i.saturating_add(100))?;
         sum = sum.saturating_add(bill.price(i));

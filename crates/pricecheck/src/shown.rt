@@ -4,6 +4,7 @@ use queue::Entry;
 use std::fmt;
 use text::cause::Layer;
 
+// Beside `samples::told`, which tells what calls on a book answer: here pairs are shown as well.
 /// A number, a refusal, which is written as its number, or two numbers.
 #[derive(Clone, Copy)]
 pub enum Shown {
@@ -56,6 +57,7 @@ impl From<Shortage> for Shown {
     }
 }
 
+// Two, and not one for any cost: which number of a cost is shown is written out. Zeros stand in the output that is compared.
 /// The cost and the node, or zeros where none came.
 impl From<Option<Entry<u32>>> for Shown {
     fn from(came: Option<Entry<u32>>) -> Shown {

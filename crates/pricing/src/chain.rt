@@ -15,13 +15,14 @@ pub(crate) enum Side {
 
 /// For each class the last node with a part of it, and for each node the last one before it with a part of the same class. One is read by
 /// classes and the other by nodes, so they are two arrays.
+// Links are numbers, since nothing is allocated.
 #[derive(Drop)]
 pub(crate) struct Chains {
     pub first: [Option<u16>; 1024],
     pub next: [Option<u16>; 1024],
 }
 
-// the class of the node's part on a side
+// the class of the node's part on a side; by the side and not by a closure, since what is promised of chains is said by their side
 fn part_class(nodes: Nodes<'_>, side: Side, i: usize) -> Option<usize>
     requires { i < length nodes.rows.now }
     ensures value { result ≡ key side nodes.entry.rows.now i }
@@ -42,6 +43,7 @@ impl Chains {
     {
         let mut first = [None; 1024];
         let mut next = [None; 1024];
+        // by number: of rows that `iter_mut` lends to an adapter a proof does not learn what is written
         for i in 0..nodes.rows.len() {
             if let Some(k) = part_class(nodes, side, i) {
                 next[i] = first[k];

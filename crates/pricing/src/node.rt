@@ -7,6 +7,9 @@ ghost use Rattle.pricing.specs.Nodes.{table, shape_over, Below};
 use book::id::{NodeId, Parts};
 use book::nodes::Nodes;
 
+// Here and not in `book`, where these would be public calls, which may not ask that a place is a node's; `listing` has its own. Places come out
+// of rows, chains and the queue as numbers, so that each is one of the nodes' stands at each call.
+
 // the class of the node i
 pub(crate) fn class_of(nodes: Nodes<'_>, i: usize) -> usize
     requires { i < length nodes.rows.now }

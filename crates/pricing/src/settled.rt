@@ -11,6 +11,7 @@ use price::rule::PriceRule;
 use queue::Entry;
 
 /// The choice of each class that is settled, and what the class costs.
+// Two arrays: the costs are the caller's table, which holds them afterwards, and nothing is allocated.
 #[derive(Drop)]
 pub(crate) struct Settled<'a, C> {
     pub nodes: Nodes<'a>,

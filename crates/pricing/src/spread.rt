@@ -21,7 +21,7 @@ fn kept(choice: Option<u16>) -> u16
 }
 
 // stores in each node's row the choice of its class, and in its row of the cost table the cost of its class; costs are read and written
-// at different places of one table, so the loop counts
+// at different places of one table, so the loop counts; `nodes` stands beside the rows, since it is promised that the rows behind them stay
 fn spread<C: Copy + Drop>(
     rows: &mut [Row],
     nodes: usize,

@@ -13,6 +13,7 @@ use queue::{Entry, Queue};
 
 /// The queue, by a rule that is lent to each call, and which of the nodes were put into it. What is settled stands beside it and not in
 /// one struct with it: of a `&mut` in a struct in a struct its lender does not learn what it held last.
+// Flags by node, since nothing is allocated.
 #[derive(Drop)]
 pub(crate) struct Waiting<'a, R: PriceRule> {
     nodes: Nodes<'a>,
@@ -37,6 +38,7 @@ impl<'a, R: PriceRule> Waiting<'a, R> {
     }
 }
 
+// `nodes`, `offered` and `seen` relate what was before a call to what is after it, which no type says.
 impl<R: PriceRule> Waiting<'_, R> {
     // puts the node i into the queue if its parts' classes are settled and it was not put there before
     fn offer(&mut self, rule: &R, settled: &Settled<'_, R::Cost>, i: usize)
@@ -71,6 +73,7 @@ impl<R: PriceRule> Waiting<'_, R> {
         ensures offered { Offers (bare_rule R.below R.alone R.one R.two rule.now) settled.now self.old.queued self.new.queued self.old.queue self.new.queue }
         ensures seen { (i : ℕ) → i < length settled.now.nodes.rows.now → ready_at settled.now.nodes.rows.now settled.now.chosen i ≡ true → flag self.new.queued i ≡ true }
     {
+        // by number, by which a node goes
         for i in 0..settled.nodes.rows.len() {
             self.offer(rule, settled, i);
         }
@@ -91,6 +94,7 @@ impl<R: PriceRule> Waiting<'_, R> {
         ensures offered { Offers (bare_rule R.below R.alone R.one R.two rule.now) settled.now self.old.queued self.new.queued self.old.queue self.new.queue }
         ensures seen { (by : ℕ → Option ℕ) → Linked (length settled.now.nodes.rows.now) by chains.now.first chains.now.next → (i : ℕ) → i < length settled.now.nodes.rows.now → by i ≡ Some k → ready_at settled.now.nodes.rows.now settled.now.chosen i ≡ true → flag self.new.queued i ≡ true }
     {
+        // by hand: for the closure of `successors` it would have to be said that each link lies in the array, and that they end
         let mut at = chains.first[k];
         while let Some(i) = at {
             self.offer(rule, settled, i as usize);

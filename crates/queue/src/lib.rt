@@ -15,6 +15,7 @@ pub struct Entry<C> {
 }
 
 // Whether the first entry goes before the second.
+// No `Ord`, since which cost is below is the rule's to say, and the rule is lent to each call.
 fn goes_before<R: PriceRule>(rule: &R, x: &Entry<R::Cost>, y: &Entry<R::Cost>) -> bool
     ensures { result ≡ before R.below x.now y.now }
 {

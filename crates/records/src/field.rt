@@ -18,6 +18,7 @@ pub struct Field<'a> {
 }
 
 /// A number field: its bytes and place, and the value that its digits say.
+// Its bytes and place are fields, and no `Field` in it: callers read them by these names.
 #[derive(Clone, Copy)]
 pub struct Number<'a> {
     pub bytes: &'a [u8],

@@ -52,6 +52,7 @@ impl Form {
     }
 
     /// Whether a field of the form is refused for the cause.
+    // By the cause and not by a closure: the refusal tells the cause, and the two would have to agree.
     pub(crate) fn refuses(self, bytes: &[u8], cause: FieldCause) -> bool
         ensures { MatchBool result (Bad cause self bytes.now) (Fine cause self bytes.now) }
     {

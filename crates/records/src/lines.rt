@@ -26,6 +26,7 @@ pub struct TextLine<'a> {
 }
 
 /// The lines of a text that are still to come: those from the place `at` on.
+// The whole text with a place, and not what is left of it: each line tells its place in the text.
 #[derive(Clone, Copy)]
 pub struct Lines<'a> {
     source: Source,
@@ -43,6 +44,7 @@ pub fn check_text(source: Source, text: &[u8]) -> Result<(), Fault>
     ensures refused { IfErr result (λ f. (longest_text < length text.now) × TooLong source f) }
 {
     if text.len() > LONGEST_TEXT {
+        // line 0 is the whole text, as is promised of this refusal
         return Err(Fault::new(source, 0, 0, LineCause::TextTooLong.into()));
     }
     Ok(())

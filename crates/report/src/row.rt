@@ -5,6 +5,7 @@ ghost use Rattle.report.specs.Rows.{texts, row, Written, Prints};
 use text::cause::BookCause;
 
 /// The length of the row of `fields`, or none where it is more than any buffer has.
+// A loop: in a `try_fold` both checked sums would stand in a closure, and be no plainer.
 fn measure(fields: &[&[u8]]) -> Option<usize>
     ensures { MatchOption result (2 ^ 64 ≤ length (row (texts fields.now))) (λ n. n ≡ length (row (texts fields.now))) }
 {

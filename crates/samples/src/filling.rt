@@ -41,6 +41,8 @@ fn granted<F: Fn(&mut Book<'_>, usize) -> bool>(book: &mut Book<'_>, n: usize, c
     count
 }
 
+// `lent` stands at each filling: by it alone a caller's proof knows what became of the rows.
+
 /// How many names are granted, one for each row.
 fn name_all(book: &mut Book<'_>, rows: usize) -> usize
     ensures answer { Run Names (state book.old.table) rows result (state book.new.table) }
@@ -65,6 +67,7 @@ fn equate_pair(book: &mut Book<'_>, pair: Option<(NodeId, NodeId)>) -> bool
     ensures answer { EquatesPair (pair_of pair) (state book.old.table) result (state book.new.table) }
     ensures lent { book.new.table.rows.ghost_name ≡ book.old.table.rows.ghost_name }
 {
+    // a match: in a closure the book would be lent once more, which is no plainer
     match pair {
         Some((a, b)) => book.equate(a, b).is_ok(),
         None => false,

@@ -26,6 +26,7 @@ pub enum Shape {
 #[derive(Clone, Copy, Debug, PartialEq, Eq)]
 pub struct UnknownShape;
 
+// By `FromStr`, as a program's arguments are read, and no `Word`: nothing writes a shape's word.
 impl FromStr for Shape {
     type Err = UnknownShape;
 
@@ -55,6 +56,7 @@ pub(crate) fn spelling(i: usize) -> [u8; 4]
     ]
 }
 
+// How many rows there are is passed beside the shape: a shape is a word of a command, and two of the five ask for the number.
 impl Shape {
     /// What the i-th entering asks for.
     pub(crate) fn node(self, rows: usize, i: usize) -> (Symbol, Parts)

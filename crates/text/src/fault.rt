@@ -5,7 +5,8 @@ ghost use Rattle.text.specs.Causes.{number_of};
 use crate::cause::Layer;
 use crate::refusal::Source;
 
-/// A refused line: its text, its line from 1, its refusal number, its place from 0 in that text, and its layer with the cause.
+/// A refused line: its text, its line from 1 (0 where the whole text is refused), its refusal number, its place from 0 in that text, and its
+/// layer with the cause.
 #[derive(Clone, Copy, Debug, PartialEq, Eq)]
 pub struct Fault {
     pub source: Source,

@@ -43,7 +43,8 @@ pub fn settling_steps<C>()
     ensures { Settling C }
 {}
 
-// Where the choices of a book are those of the stages, by a lawful rule, each node spells one build, equal to its own; nothing equal is cheaper, and equal nodes spell alike.
+// Where the choices of a book are those of the stages, by a lawful rule, each node spells one build, equal to its own; nothing equal is
+// cheaper, and equal nodes spell alike.
 pub fn priced_books_stand()
     ensures { PricedStands }
 {}

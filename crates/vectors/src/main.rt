@@ -82,6 +82,7 @@ fn checked(text: &[u8]) -> Found {
     if let Err(fault) = check_text(Source::Sheet, text) {
         found.fault(fault);
     }
+    // one loop for the lines, the faults and the last fault
     for line in Lines::of(Source::Sheet, text) {
         found.lines = found.lines.saturating_add(1);
         if let Err(fault) = line.read() {
