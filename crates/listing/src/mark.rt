@@ -13,11 +13,7 @@ impl Place<'_> {
         ensures { UnmarkedAt self.entry.marking.nodes.rows.now self.entry.marking.bytes.now self.entry.at i result }
     {
         let k = usize::from(self.part(i)?.class());
-        if self.marking.bytes[k] == 0 {
-            Some(k)
-        } else {
-            None
-        }
+        (self.marking.bytes[k] == 0).then_some(k)
     }
 
     // The class of a part, if one is not marked.

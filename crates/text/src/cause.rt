@@ -79,6 +79,7 @@ impl From<Layer> for u8 {
     }
 }
 
+// The name by which callers ask for it; a conversion that is asked for by `into` is the same.
 impl Layer {
     /// The refusal's number.
     pub fn number(self) -> u8

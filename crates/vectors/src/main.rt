@@ -50,13 +50,8 @@ impl Tally {
     fn text(&mut self, text: &[u8], lines: u32, faults: u32, last: Option<(u32, usize, &[u8])>) {
         let found = checked(text);
         self.count(found.lines == lines && found.faults == faults);
-        self.count(match (found.last, last) {
-            (Some(fault), Some((line, place, bytes))) => fault.line == line
-                && fault.place == place
-                && cited(b"", text, &fault) == bytes,
-            (None, None) => true,
-            _ => false,
-        });
+        let told = found.last.map(|fault| (fault.line, fault.place, cited(b"", text, &fault)));
+        self.count(told == last);
     }
 }
 
