@@ -8,13 +8,13 @@ ghost use Rattle.report.specs.Printed.{visible, if_any, fault_fields, line_field
 use crate::decimal::Digits;
 use crate::row::print_row;
 use records::lines::TextLine;
-use records::record::Record;
+use records::record::{LONGEST_LINE, Record};
 use text::cause::BookCause;
 use text::fault::Fault;
 use text::word::Word;
 
 /// How many of the cited bytes are printed at most: as many as a line may have.
-pub const QUOTED: usize = 256;
+pub const QUOTED: usize = LONGEST_LINE;
 
 /// The byte as it is printed: a question mark for one that no line may have.
 fn visible_byte(b: u8) -> u8
