@@ -1,7 +1,8 @@
 -- A refusal comes first where no refusal with a lower number has its condition: the conditions, one by one.
-use Rattle.std.proofs.Common.{◌≡◌, ℕ, ◌+◌, ◌<◌, ◌⊎◌, List, [], ◌∷◌, length, Ok, Err, Result, MatchResult, sym, subst, inl, inr, arith}
+use Rattle.std.proofs.Common.{◌≡◌, ℕ, ◌<◌, ◌⊎◌, List, [], ◌∷◌, length, Ok, Err, Result, MatchResult, sym, refl, subst, inl, inr, arith}
 use Rattle.text.specs.Causes.{number_of}
 use Rattle.records.specs.Forms.{Unfit, Deep, Bad, Fine, AllFine, Checked}
+use Rattle.records.specs.Fields.{placed}
 use Rattle.records.specs.Judging.{Leftmost, FieldBreaks, FirstBreak}
 use Rattle.text.specs.declared.cause.FieldCause.{FieldCause}
 use Rattle.records.specs.declared.form.Form.{Form}
@@ -40,22 +41,58 @@ none_found c (k ∷ ks) [] h at place l = l
 none_found c (k ∷ ks) (f ∷ fs) h at place (inl b) = not_bad c k f h.0 b.0
 none_found c (k ∷ ks) (f ∷ fs) h at place (inr l) = none_found c ks fs h.1 _ place l.1
 
+-- `Leftmost` and `AllFine` of fields that each have their place beside them
+abbrev pub LeftmostOf : FieldCause → List Form → List (List ℕ × ℕ) → ℕ → Type 0
+LeftmostOf c [] ps place = ⊥
+LeftmostOf c (k ∷ ks) [] place = ⊥
+LeftmostOf c (k ∷ ks) (p ∷ ps) place = (Bad c k p.0 × (place ≡ p.1)) ⊎ ((Bad c k p.0 → ⊥) × LeftmostOf c ks ps place)
+
+abbrev pub AllFineOf : FieldCause → List Form → List (List ℕ × ℕ) → Type 0
+AllFineOf c [] ps = Unit {0}
+AllFineOf c (k ∷ ks) [] = Unit {0}
+AllFineOf c (k ∷ ks) (p ∷ ps) = Fine c k p.0 × AllFineOf c ks ps
+
+pub leftmost_placed : (c : FieldCause) (ks : List Form) (fs : List (List ℕ)) (at place : ℕ) → LeftmostOf c ks (placed at fs) place
+    → Leftmost (Bad c) ks fs at place
+leftmost_placed c [] fs at place l = l
+leftmost_placed c (k ∷ ks) [] at place l = l
+leftmost_placed c (k ∷ ks) (f ∷ fs) at place (inl b) = inl b
+leftmost_placed c (k ∷ ks) (f ∷ fs) at place (inr l) = inr (l.0, leftmost_placed c ks fs _ place l.1)
+
+pub fine_placed : (c : FieldCause) (ks : List Form) (fs : List (List ℕ)) (at : ℕ) → AllFineOf c ks (placed at fs) → AllFine c ks fs
+fine_placed c [] fs at h = tt
+fine_placed c (k ∷ ks) [] at h = tt
+fine_placed c (k ∷ ks) (f ∷ fs) at h = (h.0, fine_placed c ks fs _ h.1)
+
+pub found_in : (c : FieldCause) (ks ls : List Form) (ps qs : List (List ℕ × ℕ)) → ks ≡ ls → ps ≡ qs
+    → (place : ℕ) → LeftmostOf c ks ps place → LeftmostOf c ls qs place
+found_in c ks ls ps qs e d place l = rw (sym e, sym d) l
+
+pub fine_in : (c : FieldCause) (ks ls : List Form) (ps qs : List (List ℕ × ℕ)) → ks ≡ ls → ps ≡ qs → AllFineOf c ks ps → AllFineOf c ls qs
+fine_in c ks ls ps qs e d h = rw (sym e, sym d) h
+
+-- a field that is bad is found first
+pub found_here : (c : FieldCause) (ks ls : List Form) (k : Form) (ps qs : List (List ℕ × ℕ)) (p : List ℕ × ℕ) → ks ≡ k ∷ ls → ps ≡ p ∷ qs
+    → Bad c k p.0 → LeftmostOf c ks ps p.1
+found_here c ks ls k ps qs p e d h = rw (e, d) (inl (h, refl))
+
 -- a field that is fine leaves the others
-pub found_more : (c : FieldCause) (ks ls : List Form) (k : Form) (fs gs : List (List ℕ)) (f : List ℕ) (at n : ℕ) → ks ≡ k ∷ ls → fs ≡ f ∷ gs
-    → Fine c k f → n ≡ at + length f → (place : ℕ) → Leftmost (Bad c) ls gs (n + 1) place → Leftmost (Bad c) ks fs at place
-found_more c ks ls k fs gs f at n e d h q place l =
-    let P : ℕ → Type 0 = λ m. Leftmost (Bad c) ls gs (m + 1) place in rw (e, d) (inr (not_bad c k f h, subst P q l))
+pub found_more : (c : FieldCause) (ks ls : List Form) (k : Form) (ps qs : List (List ℕ × ℕ)) (p : List ℕ × ℕ) → ks ≡ k ∷ ls → ps ≡ p ∷ qs
+    → Fine c k p.0 → (place : ℕ) → LeftmostOf c ls qs place → LeftmostOf c ks ps place
+found_more c ks ls k ps qs p e d h place l = rw (e, d) (inr (not_bad c k p.0 h, l))
 
-pub fine_more : (c : FieldCause) (ks ls : List Form) (k : Form) (fs gs : List (List ℕ)) (f : List ℕ) → ks ≡ k ∷ ls → fs ≡ f ∷ gs
-    → Fine c k f → AllFine c ls gs → AllFine c ks fs
-fine_more c ks ls k fs gs f e d h a = rw (e, d) (h, a)
+pub fine_more : (c : FieldCause) (ks ls : List Form) (k : Form) (ps qs : List (List ℕ × ℕ)) (p : List ℕ × ℕ) → ks ≡ k ∷ ls → ps ≡ p ∷ qs
+    → Fine c k p.0 → AllFineOf c ls qs → AllFineOf c ks ps
+fine_more c ks ls k ps qs p e d h a = rw (e, d) (h, a)
 
--- where there is no field or no form, none is bad
-pub fine_without : (c : FieldCause) (ks : List Form) (fs : List (List ℕ)) → (fs ≡ []) ⊎ (ks ≡ []) → AllFine c ks fs
-fine_without c [] fs h = tt
-fine_without c (k ∷ ks) [] h = tt
-fine_without c (k ∷ ks) (f ∷ fs) (inl e) = absurd (let z : ◌≡◌ {A = ℕ} 0 1 = cc in omega arith)
-fine_without c (k ∷ ks) (f ∷ fs) (inr e) = absurd (let z : ◌≡◌ {A = ℕ} 0 1 = cc in omega arith)
+-- where there is no form or no field, none is bad
+pub fine_without_form : (c : FieldCause) (ks : List Form) (ps : List (List ℕ × ℕ)) → length ks ≡ 0 → AllFineOf c ks ps
+fine_without_form c [] ps e = tt
+fine_without_form c (k ∷ ks) ps e = absurd (omega (arith, e))
+
+pub fine_without_field : (c : FieldCause) (ks : List Form) (ps : List (List ℕ × ℕ)) → ps ≡ [] → AllFineOf c ks ps
+fine_without_field c [] ps e = tt
+fine_without_field c (k ∷ ks) ps e = rw e tt
 
 -- of fields that have their forms, the leftmost that is too deep is refused, if any is
 pub depth_told : (start : ℕ) (ks : List Form) (fs : List (List ℕ)) (at : ℕ) (r : Result (Unit {0}) Refusal) → length fs ≡ length ks → AllFine Broken ks fs

@@ -1,5 +1,6 @@
 -- The lemmas of this crate, by subject.
 pub mod Decimals
+pub mod Places
 pub mod Splits
 pub mod Judges
 pub mod Heads

@@ -5,6 +5,8 @@
 -- | field  | the bytes before the first tab                                           |
 -- | fields | all the fields of a line: one more than it has tabs                      |
 -- | after  | the fields behind the tab that the bytes begin with; none at the end     |
+-- | placed | the fields, each with its place                                          |
+-- | seen   | the bytes and the place of a field                                       |
 -- | One    | some fields are one field of a form, at its place                        |
 -- | Two    | some fields are two fields of two forms, each at its place               |
 use Rattle.std.specs.Prelude.{◌≡◌, ℕ, ◌+◌, cond, List, [], ◌∷◌, length, ◌==◌}
@@ -31,6 +33,14 @@ fields (b ∷ bs) = cond (b == 9) ([] ∷ fields bs) (longer b (fields bs))
 abbrev pub after : List ℕ → List (List ℕ)
 after [] = []
 after (b ∷ bs) = fields bs
+
+-- the first field begins at `at`, and one byte parts two of them
+abbrev pub placed : ℕ → List (List ℕ) → List (List ℕ × ℕ)
+placed at [] = []
+placed at (f ∷ fs) = (f, at) ∷ placed (at + length f + 1) fs
+
+abbrev pub seen : Field → List ℕ × ℕ
+seen f = (f.bytes.now, f.place)
 
 -- the fields stand behind a tab that is at the place `at` of the text
 pub record One (at : ℕ) (form : Form) (fs : List (List ℕ)) (f : Field) : Type 0 where

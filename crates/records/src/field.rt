@@ -1,6 +1,7 @@
 // Fields of a line, borrowed from the text, each with its place in it.
 ghost use Rattle.std.specs.Prelude.{◌≡◌, ℕ, ◌+◌, ◌^◌, ◌<◌, [], ◌∷◌, length, MatchOption, MatchResult};
-ghost use Rattle.records.specs.Fields.{after, One, Two, wrong_count};
+ghost use Rattle.std.specs.Iterator.{YieldsFirstBy, item_count};
+ghost use Rattle.records.specs.Fields.{after, placed, seen, One, Two, wrong_count};
 ghost use Rattle.records.specs.Forms.{Bad, AllFine, Checked};
 ghost use Rattle.records.specs.Judging.{FirstBreak, FieldBreaks, Leftmost};
 ghost use Rattle.text.specs.declared.cause.Layer.TheVariants as layer;
@@ -35,12 +36,14 @@ pub(crate) struct Rest<'a> {
     ghost fits: { at + length bytes.now < 2 ^ 64 },
 }
 
-impl<'a> Rest<'a> {
-    /// The next field, if any is left.
-    fn next(&mut self) -> Option<Field<'a>>
-        ensures field { MatchOption result (after self.old.bytes.now ≡ []) (λ f. after self.old.bytes.now ≡ f.bytes.now ∷ after self.new.bytes.now) }
-        ensures place { MatchOption result (self.new ≡ self.old) (λ f. (f.place ≡ self.old.at + 1) × (self.new.at ≡ f.place + length f.bytes.now)) }
-    {
+impl<'a> Iterator for Rest<'a> {
+    type Item = Field<'a>;
+
+    ghost next_gives = { YieldsFirstBy seen (λ s. placed (s.at + 1) (after s.bytes.now)) };
+
+    ghost remaining = { item_count (λ s. placed (s.at + 1) (after s.bytes.now)) };
+
+    fn next(&mut self) -> Option<Field<'a>> {
         let (_, behind) = self.bytes.split_first()?;
         let field = Field {
             bytes: stretch_at(behind, 0, |b| b == b'\t'),
@@ -50,34 +53,27 @@ impl<'a> Rest<'a> {
         self.at = field.place + field.bytes.len();
         Some(field)
     }
+}
 
+impl<'a> Rest<'a> {
     /// Refuses the fields unless they are as many as the forms.
     fn check_count(self, forms: &[Form]) -> Result<(), Refusal>
         ensures { MatchResult result (λ _. length (after self.entry.bytes.now) ≡ length forms.now) (λ e. (e ≡ wrong_count self.entry.start) × (length (after self.entry.bytes.now) ≡ length forms.now → ⊥)) }
     {
-        let wrong_count = Refusal {
-            layer: LineCause::WrongCount.into(),
-            place: self.start,
-        };
-        let mut fields = self;
-        for _ in forms {
-            fields.next().ok_or(wrong_count)?;
+        if self.count() != forms.len() {
+            return Err(Refusal {
+                layer: LineCause::WrongCount.into(),
+                place: self.start,
+            });
         }
-        match fields.next() {
-            Some(_) => Err(wrong_count),
-            None => Ok(()),
-        }
+        Ok(())
     }
 
     /// Refuses the leftmost field that its form refuses for a cause.
     fn check_each(self, forms: &[Form], cause: FieldCause) -> Result<(), Refusal>
         ensures { MatchResult result (λ _. AllFine cause forms.now (after self.entry.bytes.now)) (λ e. (e.layer ≡ layer.Field cause) × Leftmost (Bad cause) forms.now (after self.entry.bytes.now) (self.entry.at + 1) e.place) }
     {
-        let mut fields = self;
-        for form in forms {
-            let Some(field) = fields.next() else {
-                return Ok(());
-            };
+        for (form, field) in forms.iter().zip(self) {
             if form.refuses(field.bytes, cause) {
                 return Err(Refusal {
                     layer: cause.into(),

@@ -8,13 +8,13 @@ ghost use Rattle.report.specs.Printed.{visible, if_any, fault_fields, line_field
 use crate::decimal::Digits;
 use crate::row::print_row;
 use records::lines::TextLine;
-use records::record::Record;
+use records::record::{LONGEST_LINE, Record};
 use text::cause::BookCause;
 use text::fault::Fault;
 use text::word::Word;
 
 /// How many of the cited bytes are printed at most: as many as a line may have.
-pub const QUOTED: usize = 256;
+pub const QUOTED: usize = LONGEST_LINE;
 
 /// The byte as it is printed: a question mark for one that no line may have.
 fn visible_byte(b: u8) -> u8
@@ -79,17 +79,17 @@ fn record_row<'a>(
     }
 }
 
-/// Copies cited bytes to the front of `out`, as many as it takes, as they are printed, and answers how many.
-fn quote(out: &mut [u8], bytes: &[u8]) -> usize
-    ensures within { result ≤ length out.old }
-    ensures after { take result out.new ≡ map visible (take (length out.old) bytes.now) }
+/// Copies cited bytes to the front of `out`, as many as it takes, as they are printed, and lends them.
+fn quote<'a>(out: &'a mut [u8], bytes: &[u8]) -> &'a [u8]
+    ensures { result.now ≡ map visible (take (length out.old) bytes.now) }
 {
     let count = out.len().min(bytes.len());
-    out[..count].copy_from_slice(&bytes[..count]);
-    for b in out.iter_mut() {
+    let quoted = &mut out[..count];
+    quoted.copy_from_slice(&bytes[..count]);
+    for b in quoted.iter_mut() {
         *b = visible_byte(*b);
     }
-    count
+    quoted
 }
 
 /// Prints a fault: its text, line, number and place, and the bytes that it cites, if any.
@@ -97,7 +97,7 @@ pub fn print_fault(out: &mut [u8], fault: &Fault, cited: &[u8]) -> Result<usize,
     ensures { Prints out.old out.new (fault_fields fault.now cited.now) result }
 {
     let mut buffer = [0; QUOTED];
-    let count = quote(&mut buffer, cited);
+    let cited = quote(&mut buffer, cited);
     let line = Digits::from(fault.line as usize);
     let number = Digits::from(fault.number as usize);
     let place = Digits::from(fault.place);
@@ -108,7 +108,7 @@ pub fn print_fault(out: &mut [u8], fault: &Fault, cited: &[u8]) -> Result<usize,
         line.as_bytes(),
         number.as_bytes(),
         place.as_bytes(),
-        &buffer[..count],
+        cited,
     )
 }
 

@@ -45,11 +45,10 @@ fn write_row(out: &mut [u8], fields: &[&[u8]], len: usize)
 pub fn print_row(out: &mut [u8], fields: &[&[u8]]) -> Result<usize, BookCause>
     ensures { Prints out.old out.new (texts fields.now) result }
 {
-    match measure(fields) {
-        Some(len) if len <= out.len() => {
-            write_row(out, fields, len);
-            Ok(len)
-        }
-        _ => Err(BookCause::TooShort),
+    let len = measure(fields).ok_or(BookCause::TooShort)?;
+    if len > out.len() {
+        return Err(BookCause::TooShort);
     }
+    write_row(out, fields, len);
+    Ok(len)
 }

@@ -8,5 +8,5 @@ use Rattle.report.proofs.checked.quote.Goals as goal
 pub loop-b-preserved : goal.loop-b-preserved
 loop-b-preserved c =
     let i = c.loop-b.b-index in
-    ap (set c.loop-b.out i) c.visible_byte.ensures
-    ∙ map_over_more visible _ c.loop-b.out i (get_or c.loop-b.out i 0) (omega arith) c.loop-b.invariant (get_or_default c.loop-b.out i 0 _ (omega arith))
+    ap (set c.loop-b.quoted i) c.visible_byte.ensures
+    ∙ map_over_more visible _ c.loop-b.quoted i (get_or c.loop-b.quoted i 0) (omega arith) c.loop-b.invariant (get_or_default c.loop-b.quoted i 0 _ (omega arith))

@@ -4,4 +4,4 @@ use Rattle.report.specs.Printed.{visible}
 use Rattle.report.proofs.checked.quote.Given as goal
 
 abbrev pub invariant-loop-b : goal.invariant-loop-b
-invariant-loop-b l = l.out ≡ map visible (take l.b-index l.initial.out) ++ drop l.b-index l.initial.out
+invariant-loop-b l = l.quoted ≡ map visible (take l.b-index l.initial.quoted) ++ drop l.b-index l.initial.quoted

@@ -1,18 +1,44 @@
 -- A field that is fine leaves the fields behind it to be found.
-use Rattle.std.proofs.Common.{inl, arith}
-use Rattle.std.proofs.lemmas.List.{drop_more}
-use Rattle.records.proofs.Judges.{found_more, fine_more, fine_without}
-use Rattle.records.specs.declared.form.Form.TheVariants.{Version}
+use Rattle.std.proofs.Common.{◌≡◌, ◌∙◌, Iter, ap, inl, inr, rules}
+use Rattle.std.specs.declared.iter.Zip.{Zip}
+use Rattle.std.specs.Iterator.Adapters.{zip_first, zip_second}
+use Rattle.records.specs.Fields.{after, seen}
+use Rattle.records.proofs.Judges.{AllFineOf, found_in, fine_in, leftmost_placed, fine_placed, found_here, found_more, fine_more, fine_without_form, fine_without_field}
+use Rattle.records.proofs.Places.{left}
+use Rattle.records.specs.declared.field.Rest.{Rest}
+use Rattle.records.specs.declared.form.Form.{Form}
 use Rattle.records.proofs.field.Rest.check_each.Goals as goal
 
-pub returns-in_default : goal.returns-in_default
-returns-in_default c = c.loop-form.invariant.fine (fine_without _ _ _ (inl c.in_default.ensures.field))
+pub loop-form-init : goal.loop-form-init
+loop-form-init c =
+    let e = c.into_iter-form-iterator.ensures.into_iter_gives in
+    let ks : (zip_first c.into_iter-form-iterator.result).rest.now ≡ c.args.forms.now = cc in
+    let ps : left (zip_second c.into_iter-form-iterator.result) ≡ left c.args.self =
+    ap (λ (z : Zip (Iter Form) Rest). left (zip_second z)) e ∙ ap left c.zip-form-items.ensures.second in
+    record { found = λ place l. found_in c.args.cause _ _ _ _ ks ps place l; fine = λ h. fine_in c.args.cause _ _ _ _ ks ps h }
+
+pub returns-then-refuses : goal.returns-then-refuses
+returns-then-refuses c =
+    let S = c.in-Some.ensures.steps in (
+      search rules,
+      leftmost_placed c.args.cause c.args.forms.now (after c.args.self.bytes.now) _ _
+          (c.loop-form.invariant.found _ (found_here c.args.cause _ _ _ _ _ (seen c.in-Some.field) S.0 S.1 c.if-refuses.ensures)),
+    )
 
 pub loop-form-preserved : goal.loop-form-preserved
 loop-form-preserved c =
-    let here = drop_more c.args.forms.now c.loop-form.form-index Version c.loop-form-test.true in
-    let f = c.in-Some.ensures in
+    let S = c.in-Some.ensures.steps in
     record {
-      found = λ place l. c.loop-form.invariant.found place (found_more _ _ _ _ _ _ _ _ _ here f.field c.if-refuses.ensures (omega (arith, f.place)) place l);
-      fine = λ h. c.loop-form.invariant.fine (fine_more _ _ _ _ _ _ _ here f.field c.if-refuses.ensures h);
+      found = λ place l. c.loop-form.invariant.found place (found_more c.args.cause _ _ _ _ _ (seen c.in-Some.field) S.0 S.1 c.if-refuses.ensures place l);
+      fine = λ h. c.loop-form.invariant.fine (fine_more c.args.cause _ _ _ _ _ (seen c.in-Some.field) S.0 S.1 c.if-refuses.ensures h);
     }
+
+pub returns : goal.returns
+returns c =
+    let ks = (zip_first c.loop-form.form-iterator).rest.now in
+    let ps = left (zip_second c.loop-form.form-iterator) in
+    let none : AllFineOf c.args.cause ks ps =
+    elim c.in-None.ensures.steps as
+    (λ t. AllFineOf c.args.cause ks ps)
+    [ inl x ↦ fine_without_form _ _ _ x.1.0 | inr y ↦ fine_without_field _ _ _ y.1.0 ] in
+    fine_placed c.args.cause c.args.forms.now (after c.args.self.bytes.now) _ (c.loop-form.invariant.fine none)

@@ -1,13 +1,15 @@
 -- What is found of the fields to come, holds of all of them.
-use Rattle.std.proofs.Common.{ℕ, ◌+◌, drop}
-use Rattle.records.specs.Fields.{after}
-use Rattle.records.specs.Forms.{Bad, AllFine}
-use Rattle.records.specs.Judging.{Leftmost}
+use Rattle.std.proofs.Common.{ℕ}
+use Rattle.std.specs.Iterator.Adapters.{zip_first, zip_second}
+use Rattle.records.proofs.Judges.{LeftmostOf, AllFineOf}
+use Rattle.records.proofs.Places.{left}
 use Rattle.records.proofs.field.Rest.check_each.Given as goal
 
 abbrev pub invariant-loop-form : goal.invariant-loop-form
-invariant-loop-form l = record {
-  found : (place : ℕ) → Leftmost (Bad l.cause) (drop l.form-index l.forms) (after l.fields.bytes.now) (l.fields.at + 1) place
-      → Leftmost (Bad l.cause) l.forms (after l.self.bytes.now) (l.self.at + 1) place;
-  fine : AllFine l.cause (drop l.form-index l.forms) (after l.fields.bytes.now) → AllFine l.cause l.forms (after l.self.bytes.now);
-}
+invariant-loop-form l =
+    let ks = (zip_first l.form-iterator).rest.now in
+    let ps = left (zip_second l.form-iterator) in
+    record {
+      found : (place : ℕ) → LeftmostOf l.cause ks ps place → LeftmostOf l.cause l.forms (left l.self) place;
+      fine : AllFineOf l.cause ks ps → AllFineOf l.cause l.forms (left l.self);
+    }
