@@ -1,6 +1,6 @@
 // The calls on a queue; apart from its type, whose file may name nothing that names it.
 ghost use Rattle.std.specs.Prelude.{◌≡◌, Bool, length, MatchBool, MatchOption};
-ghost use Rattle.queue.specs.Queues.{slice, held, has_room, Ordered, First, Idle, Same, Pushed, Popped};
+ghost use Rattle.queue.specs.Queues.{slice, held, has_room, Ordered, First, Same, Pushed, Popped};
 
 use crate::sift::{sift_down, sift_up};
 use crate::{Entry, Queue};
@@ -51,7 +51,7 @@ impl<'a, C: Copy> Queue<'a, C> {
 
     /// Takes out an entry that no other goes before; none where nothing is held.
     pub fn pop<R: PriceRule<Cost = C>>(&mut self, rule: &R) -> Option<Entry<C>>
-        ensures after { MatchOption result (Idle self.old × Same self.old self.new) (λ x. Popped x self.old self.new) }
+        ensures after { MatchOption result ((self.old.count ≡ 0) × Same self.old self.new) (λ x. Popped x self.old self.new) }
         ensures first { Ordered R.below self.old → MatchOption result (self.old.count ≡ 0) (λ x. First R.below x (held self.old)) }
         ensures order { Ordered R.below self.old → Ordered R.below self.new }
         ensures room { length (slice self.new) ≡ length (slice self.old) }
