@@ -1,4 +1,4 @@
-// The calls on a queue; apart from its type, whose file may name nothing that names it.
+// The calls on a queue. They stand apart from its type: the file of a type with a ghost field may name nothing that names the type.
 ghost use Rattle.std.specs.Prelude.{◌≡◌, Bool, length, MatchBool, MatchOption};
 ghost use Rattle.queue.specs.Queues.{slice, held, has_room, Ordered, First, Same, Pushed, Popped};
 
