@@ -4,7 +4,7 @@ use Rattle.std.proofs.lemmas.List.{length-map, length-take-le, get_or-set_other}
 use Rattle.std.proofs.lemmas.Bool.{cond-true}
 use Rattle.queue.specs.declared.Entry.{Entry}
 use Rattle.queue.specs.declared.Queue.{Queue}
-use Rattle.queue.specs.Queues.{slice, held, Ordered, First, Idle, Same, Popped}
+use Rattle.queue.specs.Queues.{slice, held, Ordered, First, Same, Popped}
 use Rattle.theory.specs.Tables.{EachPart, PartsFirst}
 use Rattle.theory.specs.Costs.{Rule}
 use Rattle.theory.proofs.Stages.{falses_all, falses_same}
@@ -44,7 +44,7 @@ empty_waits below n F q order wide flags z low =
 
 -- an entry fewer, or none
 pub waits_still : {C : Type 0} (below : C → C → Bool) (n : ℕ) (F : List Bool) (q q' : Queue C) (r : Option (Entry C)) → Waits below n F q
-    → MatchOption r (Idle q × Same q q') (λ x. Popped x q q') → Ordered below q' → length (slice q') ≡ length (slice q) → Waits below n F q'
+    → MatchOption r ((q.count ≡ 0) × Same q q') (λ x. Popped x q q') → Ordered below q' → length (slice q') ≡ length (slice q) → Waits below n F q'
 waits_still below n F q q' None W h order room =
     record { order = order; wide = omega (arith, W.wide); flags = W.flags; space = omega (arith, W.space, h.1.count) }
 waits_still below n F q q' (Some x) W P order room =

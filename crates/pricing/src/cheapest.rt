@@ -1,5 +1,5 @@
 // Pricing a book.
-ghost use Rattle.std.specs.Prelude.{◌≡◌, ◌<◌, ◌≤◌, ◌⊎◌, length, MatchBool, OnErr, OnOk};
+ghost use Rattle.std.specs.Prelude.{◌≡◌, ◌<◌, ◌≤◌, ◌⊎◌, length, IfErr, OnErr, OnOk};
 ghost use Rattle.theory.specs.Costs.{LawfulOrder, cheaper_by};
 ghost use Rattle.theory.specs.Books.{equations_in};
 ghost use Rattle.theory.specs.Spelling.{CheapestBuilds};
@@ -15,14 +15,15 @@ use price::rule::PriceRule;
 use queue::Entry;
 use text::cause::{BookCause, Layer};
 
-// whether both tables have a row for each node
-fn long_enough(costs: usize, waiting: usize, nodes: usize) -> bool
-    ensures { MatchBool result ((nodes ≤ costs) × (nodes ≤ waiting)) ((costs < nodes) ⊎ (waiting < nodes)) }
+// refuses tables of which one has no row for some node
+fn check(costs: usize, waiting: usize, nodes: usize) -> Result<(), BookCause>
+    ensures long { OnOk result ((nodes ≤ costs) × (nodes ≤ waiting)) }
+    ensures short { IfErr result (λ e. ((costs < nodes) ⊎ (waiting < nodes)) × (e ≡ BookCause.TooShort)) }
 {
-    if costs < nodes {
-        return false;
+    if costs < nodes || waiting < nodes {
+        return Err(BookCause::TooShort);
     }
-    waiting >= nodes
+    Ok(())
 }
 
 /// Settles the classes in stages and stores each node's choice, so that the book is priced by the rule; the cost table then holds what
@@ -42,9 +43,7 @@ pub fn price<R: PriceRule>(
     ensures lent { book.new.table.rows.ghost_name ≡ book.old.table.rows.ghost_name }
 {
     let nodes = book.table.nodes;
-    if !long_enough(costs.len(), waiting.len(), nodes) {
-        return Err(BookCause::TooShort.into());
-    }
+    check(costs.len(), waiting.len(), nodes)?;
     let chosen = settle(book.nodes(), rule, costs, waiting);
     store(&mut book.table, &chosen, costs);
     Ok(())

@@ -8,7 +8,8 @@ use book::id::{NodeId, Parts};
 use book::nodes::Nodes;
 
 // Here and not in `book`, where these would be public calls, which may not ask that a place is a node's; `listing` has its own. Places come out
-// of rows, chains and the queue as numbers, so that each is one of the nodes' stands at each call.
+// of rows, chains and the queue as numbers, so that each is one of the nodes' stands at each call. Structs with that bound would be no plainer:
+// it takes two, of the nodes and of what is settled, and each call would first make one of its number, where the bound is asked again.
 
 // the class of the node i
 pub(crate) fn class_of(nodes: Nodes<'_>, i: usize) -> usize

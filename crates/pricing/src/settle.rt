@@ -12,19 +12,18 @@ use queue::Entry;
 
 // the stages, one after another: the queue yields the cheapest node that is ready, and of equals the lowest
 fn stages<R: PriceRule>(
-    nodes: Nodes<'_>,
     settled: &mut Settled<'_, R::Cost>,
     rule: &R,
     waiting: &mut [Entry<R::Cost>],
 )
-    requires same { settled.old.nodes ≡ nodes }
     requires clear { (k : ℕ) → chosen_at settled.old.chosen k ≡ None }
     requires wide { length settled.old.chosen ≡ 1024 }
-    requires room { length nodes.rows.now ≤ length waiting.old }
+    requires room { length settled.old.nodes.rows.now ≤ length waiting.old }
     ensures lent { settled.new.costs.ghost_name ≡ settled.old.costs.ghost_name }
-    ensures settles { Settles (bare_rule R.below R.alone R.one R.two rule.now) nodes.entry.rows.now settled.new.chosen settled.old.costs.now settled.new.costs.now }
+    ensures settles { Settles (bare_rule R.below R.alone R.one R.two rule.now) settled.old.nodes.rows.now settled.new.chosen settled.old.costs.now settled.new.costs.now }
     ensures nodes { settled.new.nodes ≡ settled.old.nodes }
 {
+    let nodes = settled.nodes;
     let left = Chains::of(nodes, Side::Left);
     let right = Chains::of(nodes, Side::Right);
     let mut ready: Waiting<'_, R> = Waiting::none(nodes, waiting);
@@ -51,6 +50,6 @@ pub(crate) fn settle<R: PriceRule>(
     ensures choices { ChoicesIn (length nodes.entry.rows.now) result }
 {
     let mut settled = Settled::none(nodes, costs);
-    stages(nodes, &mut settled, rule, waiting);
+    stages(&mut settled, rule, waiting);
     settled.chosen
 }

@@ -1,6 +1,6 @@
 // The nodes that wait to be chosen: each is put into the queue once, when its parts' classes are settled.
 ghost use Rattle.std.specs.Prelude.{◌≡◌, ℕ, ◌<◌, ◌≤◌, true, false, length, MatchOption, Option};
-ghost use Rattle.queue.specs.Queues.{held, First, Idle, Same, Popped};
+ghost use Rattle.queue.specs.Queues.{held, First, Same, Popped};
 ghost use Rattle.pricing.specs.Nodes.{ready_at, bare_rule};
 ghost use Rattle.pricing.specs.Chains.{Chained, Linked};
 ghost use Rattle.pricing.specs.Offers.{Waits, Offers, flag};
@@ -60,7 +60,7 @@ impl<R: PriceRule> Waiting<'_, R> {
     pub(crate) fn pop(&mut self, rule: &R) -> Option<Entry<R::Cost>>
         ensures nodes { self.new.nodes ≡ self.old.nodes }
         ensures queued { self.new.queued ≡ self.old.queued }
-        ensures after { MatchOption result (Idle self.old.queue × Same self.old.queue self.new.queue) (λ x. Popped x self.old.queue self.new.queue) }
+        ensures after { MatchOption result ((self.old.queue.count ≡ 0) × Same self.old.queue self.new.queue) (λ x. Popped x self.old.queue self.new.queue) }
         ensures first { MatchOption result (self.old.queue.count ≡ 0) (λ x. First R.below x (held self.old.queue)) }
     {
         self.queue.pop(rule)

@@ -12,7 +12,6 @@
 -- | Ordered   | the queue is in order for the rule: it holds no more than the slice, and that is heaped    |
 -- | First     | none of the entries goes before x                                                          |
 -- | has_room  | the slice has room for one entry more                                                      |
--- | Idle      | nothing can be yielded: nothing is held, or more than the slice has                        |
 -- | Same      | a call left the queue as it was                                                            |
 -- | Pushed    | after a push it holds what it held, and the entry                                          |
 -- | Popped    | after a pop it holds what it held, but the entry that was yielded                          |
@@ -53,9 +52,6 @@ First below x es = AllByRecursion (λ y. before below y x ≡ false) es
 
 abbrev pub has_room : {C : Type 0} → Queue C → Bool
 has_room q = nat_lt q.count (length (slice q))
-
-abbrev pub Idle : {C : Type 0} → Queue C → Type 0
-Idle q = 0 < q.count → length (slice q) < q.count
 
 pub record Same {C : Type 0} (q q' : Queue C) : Type 0 where
   pub count : q'.count ≡ q.count

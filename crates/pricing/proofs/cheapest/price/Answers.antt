@@ -1,10 +1,10 @@
 -- A table is too short, or the classes are settled and the choices stored.
-use Rattle.std.proofs.Common.{ℕ, List, length, refl, sym, ap, ◌∙◌, subst, arith}
-use Rattle.text.specs.Causes.{number_of}
+use Rattle.std.proofs.Common.{◌≡◌, ℕ, List, length, Err, sym, ap, ◌∙◌, subst, arith, rules}
+use Rattle.text.specs.declared.cause.Layer.TheVariants.{Book}
 use Rattle.theory.specs.Costs.{cheaper_by}
 use Rattle.theory.specs.Books.{symbol_of, equations_in}
 use Rattle.theory.specs.Spelling.{CheapestBuilds}
-use Rattle.theory.specs.Calls.{Pricing, granted, refused}
+use Rattle.theory.specs.Calls.{Pricing, granted}
 use Rattle.price.proofs.Rules.{costed}
 use Rattle.book.specs.declared.row.Row.{Row}
 use Rattle.book.specs.Layout.{Contents, state_of, Relaid}
@@ -18,29 +18,29 @@ use Rattle.pricing.specs.Told.{book_rule, CostsTold}
 use Rattle.pricing.proofs.Prices.{too_short, pricing, told, cheapest, kept, relaid}
 use Rattle.pricing.proofs.cheapest.price.Goals as goal
 
-pub returns-then-not-long_enough : goal.returns-then-not-long_enough
-returns-then-not-long_enough g c =
+pub returns-in_err-check-clause-answer : goal.returns-in_err-check-clause-answer
+returns-in_err-check-clause-answer g c =
+    let s = contents c.args.book.now.table in
+    let h = c.in_err-check.ensures.short in
+    let is : c.from_residual.result ≡ Err (Book c.in_err-check.field-0.0) = search rules in
+    rw (is ∙ ap (λ e. Err (Book e)) h.1) (too_short s (sound_of s c.args.book.now.holds) _ (length c.args.costs.now) (length c.args.waiting.now) h.0)
+
+pub returns-in_err-check-clause-lawful : goal.returns-in_err-check-clause-lawful
+returns-in_err-check-clause-lawful g c =
     let P = g.R.PriceRule in
     let m = g.met.R.PriceRule in
+    (costed P.fits P.below P.alone P.one P.two c.args.rule.now (symbol_of (state_of (contents c.args.book.now.table)).names) m.fitting m.order m.growth m.weight).laws
+
+pub returns-in_err-check-clause-laid : goal.returns-in_err-check-clause-laid
+returns-in_err-check-clause-laid g c =
     let s = contents c.args.book.now.table in
-    let K = sound_of s c.args.book.now.holds in
-    record {
-      answer = subst (λ (n : ℕ). Pricing (state_of s) (cheaper_by (book_rule P.below P.alone P.one P.two c.args.rule.now (state_of s)))
-          (length c.args.costs.now) (length c.args.waiting.now) (refused n) (state_of s)) (sym (ap number_of c.into.ensures))
-          (too_short s K _ (length c.args.costs.now) (length c.args.waiting.now) c.if-not-long_enough.ensures);
-      lawful = (costed P.fits P.below P.alone P.one P.two c.args.rule.now (symbol_of (state_of s).names) m.fitting m.order m.growth m.weight).laws;
-      costs = tt;
-      cheapest = tt;
-      same = (refl {a = c.args.costs.now}, refl {a = c.args.waiting.now});
-      laid = laid_still s K;
-      lent = refl {a = c.args.book.now.table.rows.ghost_name};
-    }
+    laid_still s (sound_of s c.args.book.now.holds)
 
 pub settle-chosen-requires : goal.settle-chosen-requires
 settle-chosen-requires g c =
     let s = contents c.args.book.now.table in
     let K = sound_of s c.args.book.now.holds in
-    let long = c.if-not-long_enough.ensures in
+    let long = c.in_ok-check.ensures.long in
     let z = ap length c.nodes.ensures ∙ front_length s K in
     (omega (arith, z, long.0), omega (arith, z, long.1))
 
@@ -51,7 +51,7 @@ store-requires g c =
     let z = ap length c.nodes.ensures ∙ front_length s K in
     record {
       holds = c.args.book.now.holds;
-      room = omega (arith, c.if-not-long_enough.ensures.0, c.settle-chosen.auto.costs);
+      room = omega (arith, c.in_ok-check.ensures.long.0, c.settle-chosen.auto.costs);
       choices = subst (λ (n : ℕ). ChoicesIn n c.settle-chosen.result) z c.settle-chosen.ensures.choices;
     }
 
@@ -90,7 +90,7 @@ returns g c =
     let S = subst (λ (xs : List Row). Settles (bare_rule P.below P.alone P.one P.two r) xs ch bs cs) c.nodes.ensures c.settle-chosen.ensures.settles in
     let Q = c.store.ensures.spread in
     let is = sym c.store.ensures.after in
-    let long = c.if-not-long_enough.ensures in
+    let long = c.in_ok-check.ensures.long in
     record {
       answer = subst (λ (t : Contents). Pricing (state_of s) (cheaper_by rule) (length bs) (length c.args.waiting.now) (granted tt) (state_of t)) is
           (pricing P.below P.alone P.one P.two r s K ys ch bs cs ds S Q _ _ long.0 long.1);

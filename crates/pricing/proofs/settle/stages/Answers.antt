@@ -20,9 +20,9 @@ loop-e-init g c =
     let o = c.offer_all.ensures in
     record {
       lent = refl;
-      between = begun c.args.nodes rule s w.queued w'.queued w.queue w'.queue c.requires.same c.requires.clear v.low v.empty o.offered
+      between = begun c.args.settled.now.nodes rule s w.queued w'.queued w.queue w'.queue refl c.requires.clear v.low v.empty o.offered
           (λ i h t. o.seen i h);
-      same = o.nodes ∙ v.nodes ∙ sym c.requires.same;
+      same = o.nodes ∙ v.nodes;
       wide = c.requires.wide;
     }
 
@@ -31,7 +31,7 @@ is_settled-requires g c =
     let P = g.R.PriceRule in
     let s = c.loop-e.settled in
     let w = c.loop-e.ready in
-    node_in_settled c.args.nodes (bare_rule P.below P.alone P.one P.two c.args.rule.now) c.args.settled.now.costs.now c.args.settled.now.costs.ghost_name
+    node_in_settled c.args.settled.now.nodes (bare_rule P.below P.alone P.one P.two c.args.rule.now) c.args.settled.now.costs.now c.args.settled.now.costs.ghost_name
     s w.queued w.queue c.loop-e.invariant.between c.in-Some.e c.pop.new.self.queue c.in-Some.ensures.after
 
 pub choose-k-requires : goal.choose-k-requires
@@ -39,13 +39,13 @@ choose-k-requires g c =
     let P = g.R.PriceRule in
     let s = c.loop-e.settled in
     let w = c.loop-e.ready in
-    node_in_settled c.args.nodes (bare_rule P.below P.alone P.one P.two c.args.rule.now) c.args.settled.now.costs.now c.args.settled.now.costs.ghost_name
+    node_in_settled c.args.settled.now.nodes (bare_rule P.below P.alone P.one P.two c.args.rule.now) c.args.settled.now.costs.now c.args.settled.now.costs.ghost_name
     s w.queued w.queue c.loop-e.invariant.between c.in-Some.e c.pop.new.self.queue c.in-Some.ensures.after
 
 pub loop-e-smaller-then-is_settled : goal.loop-e-smaller-then-is_settled
 loop-e-smaller-then-is_settled g c =
     let o = c.in-Some.ensures in
-    omega (arith, o.after.count, ap (λ (F : List Bool). falses (flag F) (length c.args.nodes.rows.now)) o.queued)
+    omega (arith, o.after.count, ap (λ (F : List Bool). falses (flag F) (length c.args.settled.now.nodes.rows.now)) o.queued)
 
 pub loop-e-preserved-then-is_settled : goal.loop-e-preserved-then-is_settled
 loop-e-preserved-then-is_settled g c =
@@ -57,11 +57,11 @@ loop-e-preserved-then-is_settled g c =
     let w' = c.pop.new.self in
     let I = c.loop-e.invariant in
     let o = c.in-Some.ensures in
-    let B : Between rule c.args.nodes c.args.settled.now.costs.now lent s w'.queued w.queue
-    = subst (λ (F : List Bool). Between rule c.args.nodes c.args.settled.now.costs.now lent s F w.queue) (sym o.queued) I.between in
+    let B : Between rule c.args.settled.now.nodes c.args.settled.now.costs.now lent s w'.queued w.queue
+    = subst (λ (F : List Bool). Between rule c.args.settled.now.nodes c.args.settled.now.costs.now lent s F w.queue) (sym o.queued) I.between in
     record {
       lent = I.lent;
-      between = passed_over c.args.nodes rule c.args.settled.now.costs.now lent s w'.queued w.queue B c.in-Some.e w'.queue o.after c.if-is_settled.ensures;
+      between = passed_over c.args.settled.now.nodes rule c.args.settled.now.costs.now lent s w'.queued w.queue B c.in-Some.e w'.queue o.after c.if-is_settled.ensures;
       same = o.nodes ∙ I.same;
       wide = I.wide;
     }
@@ -74,7 +74,7 @@ offer_chain-requires g c =
     let I = c.loop-e.invariant in
     let u = c.choose-k.ensures in
     let few = s.nodes.few in
-    let h = node_in_settled c.args.nodes (bare_rule P.below P.alone P.one P.two c.args.rule.now) c.args.settled.now.costs.now c.args.settled.now.costs.ghost_name
+    let h = node_in_settled c.args.settled.now.nodes (bare_rule P.below P.alone P.one P.two c.args.rule.now) c.args.settled.now.costs.now c.args.settled.now.costs.ghost_name
     s w.queued w.queue I.between c.in-Some.e c.pop.new.self.queue c.in-Some.ensures.after in
     record {
       same = c.in-Some.ensures.nodes ∙ I.same ∙ sym u.nodes;
@@ -91,7 +91,7 @@ offer_chain-requires-in-Some g c =
     let I = c.loop-e.invariant in
     let u = c.choose-k.ensures in
     let few = s.nodes.few in
-    let h = node_in_settled c.args.nodes (bare_rule P.below P.alone P.one P.two c.args.rule.now) c.args.settled.now.costs.now c.args.settled.now.costs.ghost_name
+    let h = node_in_settled c.args.settled.now.nodes (bare_rule P.below P.alone P.one P.two c.args.rule.now) c.args.settled.now.costs.now c.args.settled.now.costs.ghost_name
     s w.queued w.queue I.between c.in-Some.e c.pop.new.self.queue c.in-Some.ensures.after in
     record {
       same = c.offer_chain.ensures.nodes ∙ c.in-Some.ensures.nodes ∙ I.same ∙ sym u.nodes;
@@ -109,16 +109,16 @@ loop-e-smaller g c =
     let w' = c.pop.new.self in
     let w₁ = c.offer_chain.new.self in
     let w₂ = c.offer_chain-in-Some.new.self in
-    let e : s'.nodes ≡ c.args.nodes = c.choose-k.ensures.nodes ∙ c.loop-e.invariant.between.nodes in
-    let O₁ = offers_on c.args.nodes rule s' w'.queued w₁.queued w'.queue w₁.queue e c.offer_chain.ensures.offered in
-    let O₂ = offers_on c.args.nodes rule s' w₁.queued w₂.queued w₁.queue w₂.queue e c.offer_chain-in-Some.ensures.offered in
-    omega (arith, O₁.count, O₂.count, o.after.count, ap (λ (F : List Bool). falses (flag F) (length c.args.nodes.rows.now)) o.queued)
+    let e : s'.nodes ≡ c.args.settled.now.nodes = c.choose-k.ensures.nodes ∙ c.loop-e.invariant.between.nodes in
+    let O₁ = offers_on c.args.settled.now.nodes rule s' w'.queued w₁.queued w'.queue w₁.queue e c.offer_chain.ensures.offered in
+    let O₂ = offers_on c.args.settled.now.nodes rule s' w₁.queued w₂.queued w₁.queue w₂.queue e c.offer_chain-in-Some.ensures.offered in
+    omega (arith, O₁.count, O₂.count, o.after.count, ap (λ (F : List Bool). falses (flag F) (length c.args.settled.now.nodes.rows.now)) o.queued)
 
 pub loop-e-preserved : goal.loop-e-preserved
 loop-e-preserved g c =
     let P = g.R.PriceRule in
     let rule = bare_rule P.below P.alone P.one P.two c.args.rule.now in
-    let N = c.args.nodes in
+    let N = c.args.settled.now.nodes in
     let xs = N.rows.now in
     let lent = c.args.settled.now.costs.ghost_name in
     let s = c.loop-e.settled in
@@ -153,8 +153,8 @@ returns g c =
     let w = c.loop-e.ready in
     let I = c.loop-e.invariant in
     record {
-      settles = ended c.args.nodes (bare_rule P.below P.alone P.one P.two c.args.rule.now) c.args.settled.now.costs.now
+      settles = ended c.args.settled.now.nodes (bare_rule P.below P.alone P.one P.two c.args.rule.now) c.args.settled.now.costs.now
           c.args.settled.now.costs.ghost_name c.loop-e.settled w.queued w.queue I.between w.waits.order.0 c.in_default.ensures.first;
-      nodes = I.between.nodes ∙ sym c.requires.same;
+      nodes = I.between.nodes;
       lent = I.lent;
     }

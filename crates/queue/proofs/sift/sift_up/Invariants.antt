@@ -3,7 +3,7 @@ use Rattle.std.proofs.Common.{◌≡◌, ◌<◌, length}
 use Rattle.std.specs.List.Sorted.{IsPermutation}
 use Rattle.queue.specs.Queues.{after, Rising}
 use Rattle.queue.proofs.Sifts.{Up}
-use Rattle.queue.proofs.sift_up.Given as goal
+use Rattle.queue.proofs.sift.sift_up.Given as goal
 
 abbrev pub invariant-loop-parent : goal.invariant-loop-parent
 invariant-loop-parent g l = record {

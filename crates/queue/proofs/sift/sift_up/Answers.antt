@@ -3,7 +3,7 @@ use Rattle.std.proofs.Common.{◌-◌, length, arith, rules}
 use Rattle.std.proofs.lemmas.List.Sorted.{IsPermutation-refl, IsPermutation-trans}
 use Rattle.queue.specs.Queues.{after}
 use Rattle.queue.proofs.Sifts.{starts, up, ranks, told}
-use Rattle.queue.proofs.sift_up.Goals as goal
+use Rattle.queue.proofs.sift.sift_up.Goals as goal
 
 pub loop-parent-init : goal.loop-parent-init
 loop-parent-init g c =

@@ -3,7 +3,7 @@ use Rattle.std.proofs.Common.{◌≡◌, ◌-◌, length}
 use Rattle.std.specs.List.Sorted.{IsPermutation}
 use Rattle.queue.specs.Queues.{after, Sinking}
 use Rattle.queue.proofs.Sifts.{Down}
-use Rattle.queue.proofs.sift_down.Given as goal
+use Rattle.queue.proofs.sift.sift_down.Given as goal
 
 abbrev pub invariant-loop-child : goal.invariant-loop-child
 invariant-loop-child g l = record {

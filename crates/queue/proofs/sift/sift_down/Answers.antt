@@ -3,7 +3,7 @@ use Rattle.std.proofs.Common.{length, arith}
 use Rattle.std.proofs.lemmas.List.Sorted.{IsPermutation-trans}
 use Rattle.queue.specs.Queues.{after}
 use Rattle.queue.proofs.Sifts.{rests, sinks, ranks, told}
-use Rattle.queue.proofs.sift_down.Goals as goal
+use Rattle.queue.proofs.sift.sift_down.Goals as goal
 
 pub returns-then-not-goes_before-clause-order : goal.returns-then-not-goes_before-clause-order
 returns-then-not-goes_before-clause-order g c =
