@@ -84,7 +84,7 @@ impl<'a> Lines<'a> {
         }
     }
 
-    /// The next line, if any is left.
+    /// The next line, if any is left; `Iterator::next` is this call, whose name is promised.
     pub fn next_line(&mut self) -> Option<TextLine<'a>>
         ensures text { self.new.text.now ≡ self.old.text.now }
         ensures source { self.new.source ≡ self.old.source }
