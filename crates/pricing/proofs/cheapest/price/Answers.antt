@@ -36,13 +36,6 @@ returns-in_err-check-clause-laid g c =
     let s = contents c.args.book.now.table in
     laid_still s (sound_of s c.args.book.now.holds)
 
-pub settle-chosen-requires : goal.settle-chosen-requires
-settle-chosen-requires g c =
-    let s = contents c.args.book.now.table in
-    let K = sound_of s c.args.book.now.holds in
-    let long = c.in_ok-check.ensures.long in
-    let z = ap length c.nodes.ensures ∙ front_length s K in
-    (omega (arith, z, long.0), omega (arith, z, long.1))
 
 pub store-requires : goal.store-requires
 store-requires g c =

@@ -1,12 +1,10 @@
 -- The loop over the queue.
 use Rattle.std.proofs.Common.{◌≡◌, List, Bool, Option, ℕ, length, ap, ◌∙◌, sym, refl, subst, arith, length-set}
-use Rattle.theory.specs.Steps.{falses}
 use Rattle.book.specs.declared.nodes.Nodes.{Nodes}
 use Rattle.pricing.specs.declared.chain.Side.TheVariants.{Left, Right}
 use Rattle.pricing.specs.Nodes.{bare_rule}
-use Rattle.pricing.specs.Chains.{key, Chained, Linked}
-use Rattle.pricing.specs.Offers.{flag}
-use Rattle.pricing.proofs.Settles.{Between, begun, offers_on, node_in_settled, passed_over, taken_up, ended}
+use Rattle.pricing.specs.Chains.{key, Linked}
+use Rattle.pricing.proofs.Settles.{Between, begun, node_in_settled, passed_over, taken_up, ended}
 use Rattle.pricing.proofs.settle.stages.Goals as goal
 
 pub loop-e-init : goal.loop-e-init
@@ -42,10 +40,6 @@ choose-k-requires g c =
     node_in_settled c.args.settled.now.nodes (bare_rule P.below P.alone P.one P.two c.args.rule.now) c.args.settled.now.costs.now c.args.settled.now.costs.ghost_name
     s w.queued w.queue c.loop-e.invariant.between c.in-Some.e c.pop.new.self.queue c.in-Some.ensures.after
 
-pub loop-e-smaller-then-is_settled : goal.loop-e-smaller-then-is_settled
-loop-e-smaller-then-is_settled g c =
-    let o = c.in-Some.ensures in
-    omega (arith, o.after.count, ap (λ (F : List Bool). falses (flag F) (length c.args.settled.now.nodes.rows.now)) o.queued)
 
 pub loop-e-preserved-then-is_settled : goal.loop-e-preserved-then-is_settled
 loop-e-preserved-then-is_settled g c =
@@ -66,53 +60,6 @@ loop-e-preserved-then-is_settled g c =
       wide = I.wide;
     }
 
-pub offer_chain-requires : goal.offer_chain-requires
-offer_chain-requires g c =
-    let P = g.R.PriceRule in
-    let s = c.loop-e.settled in
-    let w = c.loop-e.ready in
-    let I = c.loop-e.invariant in
-    let u = c.choose-k.ensures in
-    let few = s.nodes.few in
-    let h = node_in_settled c.args.settled.now.nodes (bare_rule P.below P.alone P.one P.two c.args.rule.now) c.args.settled.now.costs.now c.args.settled.now.costs.ghost_name
-    s w.queued w.queue I.between c.in-Some.e c.pop.new.self.queue c.in-Some.ensures.after in
-    record {
-      same = c.in-Some.ensures.nodes ∙ I.same ∙ sym u.nodes;
-      chained = subst (λ (M : Nodes). Chained (length M.rows.now) c.of-left.result.first c.of-left.result.next) (sym (u.nodes ∙ I.between.nodes))
-          c.of-left.ensures.chained;
-      class = omega (arith, u.within, h, few);
-    }
-
-pub offer_chain-requires-in-Some : goal.offer_chain-requires-in-Some
-offer_chain-requires-in-Some g c =
-    let P = g.R.PriceRule in
-    let s = c.loop-e.settled in
-    let w = c.loop-e.ready in
-    let I = c.loop-e.invariant in
-    let u = c.choose-k.ensures in
-    let few = s.nodes.few in
-    let h = node_in_settled c.args.settled.now.nodes (bare_rule P.below P.alone P.one P.two c.args.rule.now) c.args.settled.now.costs.now c.args.settled.now.costs.ghost_name
-    s w.queued w.queue I.between c.in-Some.e c.pop.new.self.queue c.in-Some.ensures.after in
-    record {
-      same = c.offer_chain.ensures.nodes ∙ c.in-Some.ensures.nodes ∙ I.same ∙ sym u.nodes;
-      chained = subst (λ (M : Nodes). Chained (length M.rows.now) c.of-right.result.first c.of-right.result.next) (sym (u.nodes ∙ I.between.nodes))
-          c.of-right.ensures.chained;
-      class = omega (arith, u.within, h, few);
-    }
-
-pub loop-e-smaller : goal.loop-e-smaller
-loop-e-smaller g c =
-    let P = g.R.PriceRule in
-    let rule = bare_rule P.below P.alone P.one P.two c.args.rule.now in
-    let o = c.in-Some.ensures in
-    let s' = c.choose-k.new.self in
-    let w' = c.pop.new.self in
-    let w₁ = c.offer_chain.new.self in
-    let w₂ = c.offer_chain-in-Some.new.self in
-    let e : s'.nodes ≡ c.args.settled.now.nodes = c.choose-k.ensures.nodes ∙ c.loop-e.invariant.between.nodes in
-    let O₁ = offers_on c.args.settled.now.nodes rule s' w'.queued w₁.queued w'.queue w₁.queue e c.offer_chain.ensures.offered in
-    let O₂ = offers_on c.args.settled.now.nodes rule s' w₁.queued w₂.queued w₁.queue w₂.queue e c.offer_chain-in-Some.ensures.offered in
-    omega (arith, O₁.count, O₂.count, o.after.count, ap (λ (F : List Bool). falses (flag F) (length c.args.settled.now.nodes.rows.now)) o.queued)
 
 pub loop-e-preserved : goal.loop-e-preserved
 loop-e-preserved g c =

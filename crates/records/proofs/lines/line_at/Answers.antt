@@ -5,10 +5,6 @@ use Rattle.text.proofs.Fronts.{span, span_within}
 use Rattle.records.proofs.LineSplits.{line_fed, line_last}
 use Rattle.records.proofs.lines.line_at.Goals as goal
 
-pub overflow_add-end : goal.overflow_add-end
-overflow_add-end c =
-    let n = ap length (c.stretch_at-bytes.ensures feed (λ b r h. search rules)) in
-    omega (arith, span_within feed c.args.text.now c.args.at (omega arith))
 
 pub returns-then-end-text : goal.returns-then-end-text
 returns-then-end-text c =

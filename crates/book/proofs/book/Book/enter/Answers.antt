@@ -6,10 +6,6 @@ use Rattle.book.proofs.Booked.{kept_of, told}
 use Rattle.book.proofs.Entered.{answers_known, answers_full, put_tidy, put_based, put_unpriced_front, answers_new, sound_entered, laid_entered}
 use Rattle.book.proofs.book.Book.enter.Goals as goal
 
-pub wanted-node-requires : goal.wanted-node-requires
-wanted-node-requires c =
-    let K = sound_of (contents c.args.self.now.table) c.args.self.now.holds in
-    (omega (arith, K.names_fit.1), K.nodes_fit.1, c.if-not-within.ensures.0 refl)
 
 pub returns-in-Some-clause-answer : goal.returns-in-Some-clause-answer
 returns-in-Some-clause-answer c =

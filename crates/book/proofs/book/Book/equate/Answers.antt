@@ -2,31 +2,10 @@
 use Rattle.std.proofs.Common.{◌-◌, arith}
 use Rattle.book.specs.Held.{contents}
 use Rattle.book.proofs.Whole.{sound_of}
-use Rattle.book.proofs.Booked.{kept_of, told}
-use Rattle.book.proofs.Accepted.{answers_full, fit, long_front, accept_tidy, accept_based, accept_level, accepted_unpriced_front, answers_new, sound_accepted, laid_accepted}
+use Rattle.book.proofs.Booked.{kept_of}
+use Rattle.book.proofs.Accepted.{accept_tidy, accept_based, accept_level, accepted_unpriced_front, answers_new, sound_accepted, laid_accepted}
 use Rattle.book.proofs.book.Book.equate.Goals as goal
 
-pub returns-then-at-usable-clause-answer : goal.returns-then-at-usable-clause-answer
-returns-then-at-usable-clause-answer c =
-    let s = contents c.args.self.now.table in
-    answers_full s (sound_of s c.args.self.now.holds) c.args.a.0 c.args.b.0 (omega arith) (omega arith) (omega (arith, c.usable.ensures)) _ (told c.into-then-at-usable.ensures)
-
-pub overflow_cast-table : goal.overflow_cast-table
-overflow_cast-table c = let K = sound_of (contents c.args.self.now.table) c.args.self.now.holds in omega (arith, K.nodes_fit.1)
-
-pub overflow_cast-table-2 : goal.overflow_cast-table-2
-overflow_cast-table-2 c = let K = sound_of (contents c.args.self.now.table) c.args.self.now.holds in omega (arith, K.nodes_fit.1)
-
-pub slice_bounds-rows-end : goal.slice_bounds-rows-end
-slice_bounds-rows-end c =
-    let s = contents c.args.self.now.table in
-    fit s (sound_of s c.args.self.now.holds) c.args.a.0 c.args.b.0 (omega arith) (omega arith) (omega (arith, c.usable.ensures)) (s.nodes - 0) (omega arith)
-
-pub accept-requires-clause-few : goal.accept-requires-clause-few
-accept-requires-clause-few c =
-    let s = contents c.args.self.now.table in
-    let K = sound_of s c.args.self.now.holds in
-    omega (arith, K.nodes_fit.1, long_front s (sound_of s c.args.self.now.holds) c.args.a.0 c.args.b.0 (omega arith) (omega arith) (omega (arith, c.usable.ensures)) (s.nodes - 0) (omega arith))
 
 pub accept-requires-clause-tidy : goal.accept-requires-clause-tidy
 accept-requires-clause-tidy c =
@@ -43,11 +22,6 @@ accept-requires-clause-level c =
     let s = contents c.args.self.now.table in
     accept_level s (sound_of s c.args.self.now.holds) c.args.a.0 c.args.b.0 (omega arith) (omega arith) (omega (arith, c.usable.ensures)) (s.nodes - 0) (omega arith)
 
-pub accept-requires-clause-inside : goal.accept-requires-clause-inside
-accept-requires-clause-inside c =
-    let s = contents c.args.self.now.table in
-    let z = long_front s (sound_of s c.args.self.now.holds) c.args.a.0 c.args.b.0 (omega arith) (omega arith) (omega (arith, c.usable.ensures)) (s.nodes - 0) (omega arith) in
-    (omega arith, omega arith)
 
 pub unprice-requires : goal.unprice-requires
 unprice-requires c =

@@ -1,19 +1,15 @@
 -- The listing is counted, and then written production by production.
-use Rattle.std.proofs.Common.{ℕ, suc, ◌≡◌, ◌<◌, ◌^◌, ◌++◌, map, length, take, drop, set, inl, refl, sym, ap, ◌∙◌, arith}
+use Rattle.std.proofs.Common.{ℕ, suc, ◌≡◌, ◌<◌, ◌^◌, ◌++◌, map, length, take, drop, set, inl, sym, ap, ◌∙◌, arith}
 use lib.ListN.{length-map}
-use Rattle.std.specs.declared.iter.Enumerate.{Enumerate}
-use Rattle.std.specs.Iterator.Adapters.{enumerate_source, enumerate_count}
+use Rattle.std.specs.Iterator.Adapters.{enumerate_count}
 use Rattle.std.proofs.lemmas.List.{map-set}
 use Rattle.std.proofs.lemmas.Iterator.Consumers.{count_from_yields_List, YieldsList-from_first}
-use Rattle.listing.specs.declared.write.Productions.{Productions}
 use Rattle.listing.specs.declared.marking.Marking.{Marking}
-use Rattle.theory.specs.Calls.{granted, refused}
-use Rattle.text.specs.Causes.{number_of}
-use Rattle.text.specs.declared.cause.Layer.{Layer}
+use Rattle.theory.specs.Calls.{granted}
 use Rattle.listing.specs.Told.{plain}
 use Rattle.listing.specs.Nodes.{state_in}
 use Rattle.listing.specs.Order.{listing}
-use Rattle.listing.specs.Steps.{Writing.too_long, Writing.all}
+use Rattle.listing.specs.Steps.{Writing.all}
 use Rattle.listing.proofs.Nodes.{nodes_in}
 use Rattle.listing.proofs.Order.{classes_few}
 use Rattle.listing.proofs.Left.{left}
@@ -30,18 +26,6 @@ few m =
 pub count-n-requires-clause-fits : goal.count-n-requires-clause-fits
 count-n-requires-clause-fits c = inl (omega (arith, few c.args.self, ap length c.productions.ensures))
 
-pub returns-then-n-out : goal.returns-then-n-out
-returns-then-n-out c =
-    let N = count_from_yields_List c.productions.result c.count-n.result c.count-n.ensures.ran (YieldsList-from_first plain left _ c.productions.ensures) in
-    too_long (omega (arith, c.if-n-out.true, N)) (ap (λ (e : Layer). refused (number_of e)) c.into.ensures) refl
-
-pub loop-to-init-derived : goal.loop-to-init-derived
-loop-to-init-derived c =
-    let e = c.into_iter-to-iterator.ensures.into_iter_gives in
-    let n : enumerate_count c.into_iter-to-iterator.result ≡ 0 = ap enumerate_count e ∙ c.enumerate-to-items.ensures.count in
-    let l : left (enumerate_source c.into_iter-to-iterator.result) ≡ listing (state_in c.args.self.nodes.rows.now) c.args.self.bytes.now =
-    ap (λ (x : Enumerate Productions). left (enumerate_source x)) e ∙ ap left c.enumerate-to-items.ensures.source ∙ c.productions-2.ensures in
-    ((tt, tt, inl (omega (arith, few c.args.self, ap length l))), tt)
 
 pub loop-to-preserved : goal.loop-to-preserved
 loop-to-preserved c =

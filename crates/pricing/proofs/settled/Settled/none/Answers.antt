@@ -1,5 +1,4 @@
-use Rattle.std.proofs.Common.{◌≡◌, ℕ, Option, Some, None, sym, ◌∙◌}
-use Rattle.std.proofs.lemmas.List.{length-replicate}
+use Rattle.std.proofs.Common.{◌≡◌, Some, None, sym, ◌∙◌}
 use Rattle.pricing.proofs.Nodes.{same_all}
 use Rattle.pricing.proofs.settled.Settled.none.Goals as goal
 
@@ -12,6 +11,3 @@ invariant_of-result g c =
 
 pub returns-clause-clear : goal.returns-clause-clear
 returns-clause-clear g c = λ k. same_all 1024 k None
-
-pub returns-clause-wide : goal.returns-clause-wide
-returns-clause-wide g c = length-replicate {A = Option ℕ} 1024 None

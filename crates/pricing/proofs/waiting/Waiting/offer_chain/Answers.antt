@@ -1,20 +1,9 @@
-use Rattle.std.proofs.Common.{length, ◌∙◌, refl, subst}
+use Rattle.std.proofs.Common.{length, ◌∙◌, subst}
 use Rattle.pricing.specs.Nodes.{ready_at, bare_rule}
-use Rattle.pricing.proofs.Offers.{offers_none, offers_then}
-use Rattle.pricing.proofs.Chains.{Walked, walk_start, walk_on, walk_end}
+use Rattle.pricing.proofs.Offers.{offers_then}
+use Rattle.pricing.proofs.Chains.{Walked, walk_on, walk_end}
 use Rattle.pricing.proofs.waiting.Waiting.offer_chain.Goals as goal
 
-pub loop-at-init : goal.loop-at-init
-loop-at-init g c =
-    let P = g.R.PriceRule in
-    let s = c.args.settled.now in
-    let w = c.args.self.now in
-    let ch = c.args.chains.now in
-    record {
-      nodes = refl;
-      offered = offers_none (bare_rule P.below P.alone P.one P.two c.args.rule.now) s w.queued w.queue;
-      walked = walk_start (length s.nodes.rows.now) c.args.k ch.first ch.next (ready_at s.nodes.rows.now s.chosen) w.queued c.requires.chained;
-    }
 
 pub loop-at-preserved : goal.loop-at-preserved
 loop-at-preserved g c =

@@ -1,21 +1,11 @@
 -- A field that is fine leaves the fields behind it to be found.
-use Rattle.std.proofs.Common.{◌≡◌, ◌∙◌, Iter, ap, inl, inr, rules}
-use Rattle.std.specs.declared.iter.Zip.{Zip}
+use Rattle.std.proofs.Common.{inl, inr, rules}
 use Rattle.std.specs.Iterator.Adapters.{zip_first, zip_second}
 use Rattle.records.specs.Fields.{after, seen}
-use Rattle.records.proofs.Judges.{AllFineOf, found_in, fine_in, leftmost_placed, fine_placed, found_here, found_more, fine_more, fine_without_form, fine_without_field}
+use Rattle.records.proofs.Judges.{AllFineOf, leftmost_placed, fine_placed, found_here, found_more, fine_more, fine_without_form, fine_without_field}
 use Rattle.records.proofs.Places.{left}
-use Rattle.records.specs.declared.field.Rest.{Rest}
-use Rattle.records.specs.declared.form.Form.{Form}
 use Rattle.records.proofs.field.Rest.check_each.Goals as goal
 
-pub loop-form-init : goal.loop-form-init
-loop-form-init c =
-    let e = c.into_iter-form-iterator.ensures.into_iter_gives in
-    let ks : (zip_first c.into_iter-form-iterator.result).rest.now ≡ c.args.forms.now = cc in
-    let ps : left (zip_second c.into_iter-form-iterator.result) ≡ left c.args.self =
-    ap (λ (z : Zip (Iter Form) Rest). left (zip_second z)) e ∙ ap left c.zip-form-items.ensures.second in
-    record { found = λ place l. found_in c.args.cause _ _ _ _ ks ps place l; fine = λ h. fine_in c.args.cause _ _ _ _ ks ps h }
 
 pub returns-then-refuses : goal.returns-then-refuses
 returns-then-refuses c =
