@@ -36,7 +36,6 @@ returns-in_err-check-clause-laid g c =
     let s = contents c.args.book.now.table in
     laid_still s (sound_of s c.args.book.now.holds)
 
-
 pub store-requires : goal.store-requires
 store-requires g c =
     let s = contents c.args.book.now.table in

@@ -40,7 +40,6 @@ choose-k-requires g c =
     node_in_settled c.args.settled.now.nodes (bare_rule P.below P.alone P.one P.two c.args.rule.now) c.args.settled.now.costs.now c.args.settled.now.costs.ghost_name
     s w.queued w.queue c.loop-e.invariant.between c.in-Some.e c.pop.new.self.queue c.in-Some.ensures.after
 
-
 pub loop-e-preserved-then-is_settled : goal.loop-e-preserved-then-is_settled
 loop-e-preserved-then-is_settled g c =
     let P = g.R.PriceRule in
@@ -59,7 +58,6 @@ loop-e-preserved-then-is_settled g c =
       same = o.nodes ∙ I.same;
       wide = I.wide;
     }
-
 
 pub loop-e-preserved : goal.loop-e-preserved
 loop-e-preserved g c =

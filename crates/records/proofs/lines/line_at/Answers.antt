@@ -5,7 +5,6 @@ use Rattle.text.proofs.Fronts.{span, span_within}
 use Rattle.records.proofs.LineSplits.{line_fed, line_last}
 use Rattle.records.proofs.lines.line_at.Goals as goal
 
-
 pub returns-then-end-text : goal.returns-then-end-text
 returns-then-end-text c =
     let xs = c.args.text.now in

@@ -6,7 +6,6 @@ use Rattle.book.proofs.Booked.{kept_of, told}
 use Rattle.book.proofs.Entered.{answers_known, answers_full, put_tidy, put_based, put_unpriced_front, answers_new, sound_entered, laid_entered}
 use Rattle.book.proofs.book.Book.enter.Goals as goal
 
-
 pub returns-in-Some-clause-answer : goal.returns-in-Some-clause-answer
 returns-in-Some-clause-answer c =
     let s = contents c.args.self.now.table in

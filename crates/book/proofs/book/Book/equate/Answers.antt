@@ -6,7 +6,6 @@ use Rattle.book.proofs.Booked.{kept_of}
 use Rattle.book.proofs.Accepted.{accept_tidy, accept_based, accept_level, accepted_unpriced_front, answers_new, sound_accepted, laid_accepted}
 use Rattle.book.proofs.book.Book.equate.Goals as goal
 
-
 pub accept-requires-clause-tidy : goal.accept-requires-clause-tidy
 accept-requires-clause-tidy c =
     let s = contents c.args.self.now.table in
@@ -21,7 +20,6 @@ pub accept-requires-clause-level : goal.accept-requires-clause-level
 accept-requires-clause-level c =
     let s = contents c.args.self.now.table in
     accept_level s (sound_of s c.args.self.now.holds) c.args.a.0 c.args.b.0 (omega arith) (omega arith) (omega (arith, c.usable.ensures)) (s.nodes - 0) (omega arith)
-
 
 pub unprice-requires : goal.unprice-requires
 unprice-requires c =

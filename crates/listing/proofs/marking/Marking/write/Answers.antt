@@ -26,7 +26,6 @@ few m =
 pub count-n-requires-clause-fits : goal.count-n-requires-clause-fits
 count-n-requires-clause-fits c = inl (omega (arith, few c.args.self, ap length c.productions.ensures))
 
-
 pub loop-to-preserved : goal.loop-to-preserved
 loop-to-preserved c =
     let I = c.loop-to.invariant in

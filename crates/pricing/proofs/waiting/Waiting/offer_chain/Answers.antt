@@ -4,7 +4,6 @@ use Rattle.pricing.proofs.Offers.{offers_then}
 use Rattle.pricing.proofs.Chains.{Walked, walk_on, walk_end}
 use Rattle.pricing.proofs.waiting.Waiting.offer_chain.Goals as goal
 
-
 pub loop-at-preserved : goal.loop-at-preserved
 loop-at-preserved g c =
     let P = g.R.PriceRule in

@@ -6,7 +6,6 @@ use Rattle.records.proofs.Judges.{AllFineOf, leftmost_placed, fine_placed, found
 use Rattle.records.proofs.Places.{left}
 use Rattle.records.proofs.field.Rest.check_each.Goals as goal
 
-
 pub returns-then-refuses : goal.returns-then-refuses
 returns-then-refuses c =
     let S = c.in-Some.ensures.steps in (
