@@ -11,7 +11,7 @@ use crate::record::{Line, Record};
 use text::cause::LineCause;
 use text::fault::Fault;
 use text::refusal::Source;
-use text::scan::stretch_at;
+use text::scan::stretch_until;
 
 /// The most bytes that a text may have.
 pub const LONGEST_TEXT: usize = 32_768;
@@ -56,7 +56,7 @@ fn line_at<'a>(text: &'a [u8], at: usize) -> (&'a [u8], usize)
     ensures lines { lines (drop at text.now) ≡ result.0.now ∷ lines (drop result.1 text.now) }
     ensures next { (at < result.1) × (result.1 ≤ length text.now) }
 {
-    let bytes = stretch_at(text, at, |b| b == b'\n');
+    let bytes = stretch_until(text, at, |b| b == b'\n');
     let end = at + bytes.len();
     if end < text.len() {
         return (bytes, end + 1);

@@ -14,7 +14,7 @@ use crate::number::value_of;
 use text::cause::LineCause;
 use text::kind::{Kind, Rule};
 use text::refusal::Refusal;
-use text::scan::stretch_at;
+use text::scan::stretch_until;
 use text::word::Word;
 
 /// The most bytes that a line may have, its line feed not counted.
@@ -91,7 +91,7 @@ impl<'a> Line<'a> {
                 place,
             });
         }
-        Kind::of(stretch_at(self.bytes, 0, |b| b == b'\t')).ok_or(Refusal {
+        Kind::of(stretch_until(self.bytes, 0, |b| b == b'\t')).ok_or(Refusal {
             layer: LineCause::UnknownKind.into(),
             place: self.start,
         })

@@ -4,7 +4,7 @@ ghost use Rattle.text.specs.Citing.{chosen, stretch, source_word, sources, sourc
 
 use crate::fault::Fault;
 use crate::refusal::Source;
-use crate::scan::stretch_at;
+use crate::scan::stretch_until;
 use crate::word::Word;
 
 /// The text that a source names.
@@ -21,7 +21,7 @@ pub fn text_of<'a>(log: &'a [u8], sheet: &'a [u8], source: Source) -> &'a [u8]
 pub fn cited<'a>(log: &'a [u8], sheet: &'a [u8], fault: &Fault) -> &'a [u8]
     ensures { result.now ≡ stretch (drop fault.now.place (chosen fault.now.source log.now sheet.now)) }
 {
-    stretch_at(
+    stretch_until(
         text_of(log, sheet, fault.source),
         fault.place,
         |b| b == b'\t' || b == b'\n',

@@ -9,7 +9,7 @@ use crate::scan::split_front;
 const LONGEST: usize = 12;
 
 /// Whether the byte may stand in a name.
-fn is_name_byte(b: u8) -> bool
+pub(crate) fn is_name_byte(b: u8) -> bool
     ensures { result ≡ name_byte b }
 {
     b.is_ascii_lowercase() || b.is_ascii_digit() || b == b'-'
