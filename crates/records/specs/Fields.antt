@@ -13,6 +13,7 @@ use Rattle.std.specs.Prelude.{◌≡◌, ℕ, ◌+◌, cond, List, [], ◌∷◌
 use Rattle.records.specs.Forms.{Fits, Deep}
 use Rattle.text.specs.Scanning.{front, tab}
 use Rattle.text.specs.declared.cause.Layer.TheVariants as layer
+use Rattle.text.specs.declared.cause.FieldCause.{FieldCause}
 use Rattle.text.specs.declared.cause.LineCause.TheVariants.{WrongCount}
 use Rattle.records.specs.declared.field.Field.{Field}
 use Rattle.records.specs.declared.form.Form.{Form}
@@ -57,6 +58,10 @@ pub record Two (at : ℕ) (left right : Form) (fs : List (List ℕ)) (f g : Fiel
   pub next_fit : Fits right g.bytes.now
   pub shallow : Deep left f.bytes.now → ⊥
   pub next_shallow : Deep right g.bytes.now → ⊥
+
+-- the refusal of a field that begins at `place`
+abbrev pub field_refusal : FieldCause → ℕ → Refusal
+field_refusal c place = record { layer = layer.Field c; place = place }
 
 -- the refusal of a line that begins at `start` and has too few or too many fields
 abbrev pub wrong_count : ℕ → Refusal

@@ -7,10 +7,8 @@
 -- | Deep     | the bytes are a build that is nested deeper than a line may have it  |
 -- | Bad      | the bytes are refused for a cause, as a field of the form            |
 -- | Fine     | they are not                                                         |
--- | AllFine  | no field is refused for a cause                                      |
--- | Checked  | there is a field for each form, which has it and is not too deep     |
 -- | forms    | the forms of the fields that follow the word of a kind               |
-use Rattle.std.specs.Prelude.{◌≡◌, ℕ, ◌<◌, ◌≤◌, List, [], ◌∷◌, length}
+use Rattle.std.specs.Prelude.{◌≡◌, ℕ, ◌<◌, ◌≤◌, List, [], ◌∷◌}
 use Rattle.theory.specs.Names.{IsName}
 use Rattle.theory.specs.Builds.{Build, Lawful, text, depth}
 use Rattle.records.specs.Numbers.{IsNumber, value}
@@ -63,17 +61,6 @@ abbrev pub Fine : FieldCause → Form → List ℕ → Type 0
 Fine Broken k f = Fits k f
 Fine TooDeep k f = Deep k f → ⊥
 Fine WrongTotal k f = ⊥ → ⊥
-
--- none of the fields, which have these forms, is refused for the cause
-abbrev pub AllFine : FieldCause → List Form → List (List ℕ) → Type 0
-AllFine c [] fs = Unit {0}
-AllFine c (k ∷ ks) [] = Unit {0}
-AllFine c (k ∷ ks) (f ∷ fs) = Fine c k f × AllFine c ks fs
-
-pub record Checked (ks : List Form) (fs : List (List ℕ)) : Type 0 where
-  pub count : length fs ≡ length ks
-  pub fit : AllFine Broken ks fs
-  pub shallow : AllFine TooDeep ks fs
 
 abbrev pub forms : Kind → List Form
 forms Log = form.Version ∷ []

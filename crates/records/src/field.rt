@@ -1,15 +1,14 @@
 // Fields of a line, borrowed from the text, each with its place in it.
 ghost use Rattle.std.specs.Prelude.{◌≡◌, ℕ, ◌+◌, ◌^◌, ◌<◌, [], ◌∷◌, length, MatchOption, MatchResult};
 ghost use Rattle.std.specs.Iterator.{YieldsFirstBy, item_count};
-ghost use Rattle.records.specs.Fields.{after, placed, seen, One, Two, wrong_count};
-ghost use Rattle.records.specs.Forms.{Bad, AllFine, Checked};
-ghost use Rattle.records.specs.Judging.{FirstBreak, FieldBreaks, Leftmost};
-ghost use Rattle.text.specs.declared.cause.Layer.TheVariants as layer;
+ghost use Rattle.records.specs.Fields.{after, placed, seen, One, Two, wrong_count, field_refusal};
+ghost use Rattle.records.specs.Forms.{Bad, Fine};
+ghost use Rattle.records.specs.Judging.{FirstBreak, FieldBreaks};
 
 use crate::form::Form;
 use text::cause::{FieldCause, LineCause};
 use text::refusal::Refusal;
-use text::scan::stretch_at;
+use text::scan::stretch_until;
 
 /// A field: its bytes, and the place of its first byte in the text.
 #[derive(Clone, Copy)]
@@ -46,7 +45,7 @@ impl<'a> Iterator for Rest<'a> {
     fn next(&mut self) -> Option<Field<'a>> {
         let (_, behind) = self.bytes.split_first()?;
         let field = Field {
-            bytes: stretch_at(behind, 0, |b| b == b'\t'),
+            bytes: stretch_until(behind, 0, |b| b == b'\t'),
             place: self.at + 1,
         };
         self.bytes = &behind[field.bytes.len()..];
@@ -55,50 +54,45 @@ impl<'a> Iterator for Rest<'a> {
     }
 }
 
-impl<'a> Rest<'a> {
-    /// Refuses the fields unless they are as many as the forms.
-    fn check_count(self, forms: &[Form]) -> Result<(), Refusal>
-        ensures { MatchResult result (λ _. length (after self.entry.bytes.now) ≡ length forms.now) (λ e. (e ≡ wrong_count self.entry.start) × (length (after self.entry.bytes.now) ≡ length forms.now → ⊥)) }
+impl Field<'_> {
+    /// Refuses the field where its form refuses it for the cause.
+    fn check(self, form: Form, cause: FieldCause) -> Result<(), Refusal>
+        ensures { MatchResult result (λ _. Fine cause form self.entry.bytes.now) (λ e. (e ≡ field_refusal cause self.entry.place) × Bad cause form self.entry.bytes.now) }
     {
-        if self.count() != forms.len() {
+        if form.refuses(self.bytes, cause) {
             return Err(Refusal {
-                layer: LineCause::WrongCount.into(),
-                place: self.start,
+                layer: cause.into(),
+                place: self.place,
             });
         }
         Ok(())
     }
+}
 
-    /// Refuses the leftmost field that its form refuses for a cause.
-    fn check_each(self, forms: &[Form], cause: FieldCause) -> Result<(), Refusal>
-        ensures { MatchResult result (λ _. AllFine cause forms.now (after self.entry.bytes.now)) (λ e. (e.layer ≡ layer.Field cause) × Leftmost (Bad cause) forms.now (after self.entry.bytes.now) (self.entry.at + 1) e.place) }
+impl<'a> Rest<'a> {
+    /// What the line is refused for where its fields are too few or too many.
+    fn wrong_count(self) -> Refusal
+        ensures { result ≡ wrong_count self.entry.start }
     {
-        for (form, field) in forms.iter().zip(self) {
-            if form.refuses(field.bytes, cause) {
-                return Err(Refusal {
-                    layer: cause.into(),
-                    place: field.place,
-                });
-            }
+        Refusal {
+            layer: LineCause::WrongCount.into(),
+            place: self.start,
         }
-        Ok(())
-    }
-
-    /// Refuses the fields unless there is one for each form, each has its form, and none is nested too deep.
-    fn check(self, forms: &[Form]) -> Result<(), Refusal>
-        ensures { MatchResult result (λ _. Checked forms.now (after self.entry.bytes.now)) (FirstBreak (FieldBreaks self.entry.start forms.now (after self.entry.bytes.now) (self.entry.at + 1))) }
-    {
-        self.check_count(forms)?;
-        self.check_each(forms, FieldCause::Broken)?;
-        self.check_each(forms, FieldCause::TooDeep)
     }
 
     /// The one field that is left, of a form.
     pub(crate) fn one(mut self, form: Form) -> Result<Field<'a>, Refusal>
         ensures { MatchResult result (One self.entry.at form (after self.entry.bytes.now)) (FirstBreak (FieldBreaks self.entry.start (form ∷ []) (after self.entry.bytes.now) (self.entry.at + 1))) }
     {
-        self.check(&[form])?;
-        Ok(self.next().unwrap())
+        // Read before a field is taken: the iterator's law speaks of the fields alone, and not of where the line begins.
+        let wrong_count = self.wrong_count();
+        let only = self.next().ok_or(wrong_count)?;
+        if !self.bytes.is_empty() {
+            return Err(wrong_count);
+        }
+        only.check(form, FieldCause::Broken)?;
+        only.check(form, FieldCause::TooDeep)?;
+        Ok(only)
     }
 
     /// The two fields that are left, each of its form.
@@ -106,9 +100,16 @@ impl<'a> Rest<'a> {
     pub(crate) fn two(mut self, left: Form, right: Form) -> Result<(Field<'a>, Field<'a>), Refusal>
         ensures { MatchResult result (λ p. Two self.entry.at left right (after self.entry.bytes.now) p.0 p.1) (FirstBreak (FieldBreaks self.entry.start (left ∷ right ∷ []) (after self.entry.bytes.now) (self.entry.at + 1))) }
     {
-        self.check(&[left, right])?;
-        let first = self.next().unwrap();
-        let second = self.next().unwrap();
+        let wrong_count = self.wrong_count();
+        let first = self.next().ok_or(wrong_count)?;
+        let second = self.next().ok_or(wrong_count)?;
+        if !self.bytes.is_empty() {
+            return Err(wrong_count);
+        }
+        first.check(left, FieldCause::Broken)?;
+        second.check(right, FieldCause::Broken)?;
+        first.check(left, FieldCause::TooDeep)?;
+        second.check(right, FieldCause::TooDeep)?;
         Ok((first, second))
     }
 }
