@@ -1,14 +1,14 @@
 -- The state that rows of nodes hold, read off the rows: nodes, classes, parts and productions.
-use Rattle.std.proofs.Common.{cond, eqb, ltb, ◌≡◌, ℕ, zero, suc, ◌<◌, ◌≤◌, ◌⊎◌, List, length, sym, refl, ap, ◌∙◌, subst, inl, inr, arith}
+use Rattle.std.proofs.Common.{eqb, ◌≡◌, ℕ, zero, suc, ◌<◌, ◌≤◌, ◌⊎◌, List, length, sym, refl, ap, ◌∙◌, subst, inl, inr, arith}
 use Rattle.std.proofs.lemmas.Bool.{ne_eqb, cond-false}
 use lib.ListN.{length-map, get_or-map}
 use Rattle.theory.specs.Books.{State, node_at, class as class_at}
 use Rattle.theory.specs.Productions.{Part, made_by, production}
 use Rattle.book.specs.declared.row.Row.{Row}
 use Rattle.book.specs.declared.row.Node.{Node}
-use Rattle.book.specs.Rows.{absent, row, class}
+use Rattle.book.specs.Rows.{absent, row, class, Tidy, Based}
 use Rattle.book.specs.Layout.{entry, entry_of}
-use Rattle.listing.specs.Nodes.{state_in, part_at, class_of_part}
+use Rattle.listing.specs.Nodes.{state_in, part_at}
 
 -- the parts that a row counts
 abbrev pub Counted : Node → ℕ → Type 0
@@ -30,13 +30,18 @@ right_part x zero l r h = absurd (omega arith)
 right_part x (suc zero) l r h = absurd (omega arith)
 right_part x (suc (suc n)) l r h = inr refl
 
--- a production, by the number of parts
-made_entry : (s : State) (k x n l r : ℕ) → n ≤ 2
-    → made_by s k (entry x n l r) ≡ record { of = k; symbol = x; parts = n; left = cond (ltb 0 n) (class_at s l) 0; right = cond (ltb 1 n) (class_at s r) 0 }
-made_entry s k x zero l r h = refl
-made_entry s k x (suc zero) l r h = refl
-made_entry s k x (suc (suc zero)) l r h = refl
-made_entry s k x (suc (suc (suc n))) l r h = absurd (omega arith)
+-- a missing part is 0, and so is its class
+made_entry : (s : State) (k x n l r : ℕ) → n ≤ 2 → class_at s 0 ≡ 0 → (n < 1 → l ≡ 0) → (n < 2 → r ≡ 0)
+    → made_by s k (entry x n l r) ≡ record { of = k; symbol = x; parts = n; left = class_at s l; right = class_at s r }
+made_entry s k x zero l r h z a b =
+    let e = ap (class_at s) (a (omega arith)) ∙ z in
+    let f = ap (class_at s) (b (omega arith)) ∙ z in
+    λ i. record { of = k; symbol = x; parts = 0; left = sym e i; right = sym f i }
+made_entry s k x (suc zero) l r h z a b =
+    let f = ap (class_at s) (b (omega arith)) ∙ z in
+    λ i. record { of = k; symbol = x; parts = 1; left = class_at s l; right = sym f i }
+made_entry s k x (suc (suc zero)) l r h z a b = refl
+made_entry s k x (suc (suc (suc n))) l r h z a b = absurd (omega arith)
 
 module _ (xs : List Row) where
   pub nodes_in : length (state_in xs).nodes ≡ length xs
@@ -71,23 +76,19 @@ module _ (xs : List Row) where
       let e : part_at x (suc i) ≡ x.right = cond-false (eqb (suc i) 0) _ _ (ne_eqb _ 0 (λ e. absurd (omega arith))) in
       subst (λ (p : ℕ). Part p (node_at (state_in xs) j)) (sym e) (right_in j (omega arith))
 
-  pub production_in : (j : ℕ) → (row xs j).node.parts ≤ 2
+  pub production_in : Tidy xs (length xs) → Based xs (length xs) → (j : ℕ) → j < length xs
       → production (state_in xs) j
       ≡ record {
         of = class xs j;
         symbol = (row xs j).node.symbol;
         parts = (row xs j).node.parts;
-        left = class_of_part xs (row xs j).node 0;
-        right = class_of_part xs (row xs j).node 1;
+        left = class xs (row xs j).node.left;
+        right = class xs (row xs j).node.right;
       }
-  production_in j h =
+  production_in T B j h =
       let x = (row xs j).node in
+      let t = T j h in
+      let z : class_at (state_in xs) 0 ≡ 0 = class_in 0 ∙ omega (arith, (B 0 (omega arith)).0) in
       ap (made_by (state_in xs) (class_at (state_in xs) j)) (node_in j)
-      ∙ made_entry (state_in xs) (class_at (state_in xs) j) x.symbol x.parts x.left x.right h
-      ∙ (λ i. record {
-        of = class_in j i;
-        symbol = x.symbol;
-        parts = x.parts;
-        left = cond (ltb 0 x.parts) (class_in x.left i) 0;
-        right = cond (ltb 1 x.parts) (class_in x.right i) 0;
-      })
+      ∙ made_entry (state_in xs) (class_at (state_in xs) j) x.symbol x.parts x.left x.right t.0 z t.3 t.4
+      ∙ (λ i. record { of = class_in j i; symbol = x.symbol; parts = x.parts; left = class_in x.left i; right = class_in x.right i })

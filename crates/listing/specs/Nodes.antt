@@ -4,12 +4,10 @@
 -- |----------------|----------------------------------------------------------------------------------------------------|
 -- | state_in       | the state that has the rows' nodes and classes, and nothing else: a grammar asks for no more       |
 -- | part_at        | the part of a node at a place                                                                      |
--- | class_of_part  | the class of that part, and 0 for a missing one                                                    |
-use Rattle.std.specs.Prelude.{ℕ, false, List, [], map, length, ◌==◌, nat_lt, if◌then◌else◌}
+use Rattle.std.specs.Prelude.{ℕ, false, List, [], map, length, ◌==◌, if◌then◌else◌}
 use Rattle.theory.specs.Books.{State}
 use Rattle.book.specs.declared.row.Row.{Row}
 use Rattle.book.specs.declared.row.Node.{Node}
-use Rattle.book.specs.Rows.{class}
 use Rattle.book.specs.Layout.{entry_of}
 
 abbrev pub state_in : List Row → State
@@ -27,7 +25,3 @@ state_in xs =
 -- the left part at place 0, and the right part at any other
 abbrev pub part_at : Node → ℕ → ℕ
 part_at x i = if i == 0 then x.left else x.right
-
--- a missing part is 0
-abbrev pub class_of_part : List Row → Node → ℕ → ℕ
-class_of_part xs x i = if nat_lt i x.parts then class xs (part_at x i) else 0

@@ -3,7 +3,7 @@ ghost use Rattle.std.specs.Prelude.{◌≡◌, ◌<◌, ◌≤◌, length, IfNon
 ghost use Rattle.theory.specs.Productions.{production};
 ghost use Rattle.book.specs.Rows.{class, row};
 ghost use Rattle.listing.specs.Told.{plain};
-ghost use Rattle.listing.specs.Nodes.{state_in, part_at, class_of_part};
+ghost use Rattle.listing.specs.Nodes.{state_in, part_at};
 ghost use Rattle.listing.specs.Order.{unmet, stands};
 
 use crate::marking::Marking;
@@ -50,23 +50,18 @@ impl<'a> Place<'a> {
         Some(self.marking.place(usize::from(at)))
     }
 
-    // The class of the part at place i, and 0 for a missing one.
-    fn class_of_part(self, i: usize) -> u16
-        ensures { result ≡ class_of_part self.entry.marking.nodes.rows.now (row self.entry.marking.nodes.rows.now self.entry.at).node i }
-    {
-        self.part(i).map_or(0, |part| part.class())
-    }
-
+    // A missing part is node 0, whose class is 0.
     pub(crate) fn production(self) -> Production
         ensures { plain result ≡ production (state_in self.entry.marking.nodes.rows.now) self.entry.at }
     {
-        let node = self.marking.nodes.rows[self.at].node;
+        let rows = self.marking.nodes.rows;
+        let node = rows[self.at].node;
         Production {
             of: node.class,
             symbol: node.symbol,
             parts: node.parts,
-            left: self.class_of_part(0),
-            right: self.class_of_part(1),
+            left: rows[usize::from(node.left)].node.class,
+            right: rows[usize::from(node.right)].node.class,
         }
     }
 

@@ -34,7 +34,11 @@ impl Iterator for Productions<'_> {
         let marking = self.marking;
         loop {
             let class = self.class;
-            if let Some(at) = self.nodes.find(|at| marking.place(*at).stands_for(class)) {
+            // by a range of its own: one behind the `&mut` is stored anew at each node
+            let mut nodes = self.nodes.start..self.nodes.end;
+            let found = nodes.find(|at| marking.place(*at).stands_for(class));
+            self.nodes = nodes;
+            if let Some(at) = found {
                 return Some(marking.place(at).production());
             }
             let next = self.classes.find(|k| marking.bytes[*k] != 0)?;

@@ -35,9 +35,9 @@ returns-in-Some-clause-steps c =
     let P = c.place.ensures in
     let F = found _ _ (Stands s t.class) (Passes s t.class) (λ x q k. search (rules, tests)) (λ x q k. search (rules, tests)) _ _ (Some c.in-Some.at) c.in-Some.ensures.ran in
     at_first t.marking i.marking (left i) t.class t.nodes t.classes I.marking I.same
-    ∙ node_found s i.marking.bytes.now t.class t.nodes t.classes c.find.new.self c.in-Some.at (plain c.production.result) F
+    ∙ node_found s i.marking.bytes.now t.class t.nodes t.classes c.find-found.new.self c.in-Some.at (plain c.production.result) F
     (c.production.ensures ∙ (λ z. production (state_in (P.marking z).nodes.rows.now) (P.at z)))
-    ∙ (λ z. plain c.production.result ∷ in_marking (sym I.marking z) t.class c.find.new.self t.classes)
+    ∙ (λ z. plain c.production.result ∷ in_marking (sym I.marking z) t.class c.find-found.new.self t.classes)
 
 pub returns-in-Some-clause-goes : goal.returns-in-Some-clause-goes
 returns-in-Some-clause-goes c =
@@ -61,8 +61,8 @@ returns-in_err-next-clause-steps c =
     let ms = i.marking.bytes.now in
     let t = c.loop-at.self in
     let I = c.loop-at.invariant in
-    let u = c.find.new.self in
-    let v = c.find-in-loop-at.new.self in
+    let u = c.find-found.new.self in
+    let v = c.find.new.self in
     let N = found _ _ (Stands s t.class) (Passes s t.class) (λ x q k. search (rules, tests)) (λ x q k. search (rules, tests)) _ _ None c.in_default.ensures.ran in
     let M = found _ _ (Mark ms) (NoMark ms) (λ x q k. search (rules, tests)) (λ x q k. search (rules, tests)) _ _ None c.in_err-next.ensures.ran in
     rw c.from_residual.ensures (
@@ -86,8 +86,8 @@ loop-at-preserved c =
     let ms = i.marking.bytes.now in
     let t = c.loop-at.self in
     let I = c.loop-at.invariant in
-    let u = c.find.new.self in
-    let v = c.find-in-loop-at.new.self in
+    let u = c.find-found.new.self in
+    let v = c.find.new.self in
     let n = length i.marking.nodes.rows.now in
     let k = c.in_ok-next.next in
     let N = found _ _ (Stands s t.class) (Passes s t.class) (λ x q k. search (rules, tests)) (λ x q k. search (rules, tests)) _ _ None c.in_default.ensures.ran in
