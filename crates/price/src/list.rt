@@ -1,5 +1,6 @@
 // A list of up to 64 symbols, each with a value: what the bill and the stock hold.
 ghost use Rattle.std.specs.Prelude.{◌≡◌, ◌<◌, IfSome, MatchResult, is_none, position, replicate, ⊤};
+ghost use Rattle.std.specs.Option.{option_or};
 ghost use Rattle.price.specs.Lists.{is_for, value_of, Valuing, Revalued};
 
 use std::alloc::AllocError;
@@ -54,6 +55,16 @@ impl<V: Copy> List<V> {
         self.rows.iter().position(|row| row.is_none())
     }
 
+    // The row that a symbol is given: its own where it is listed, else the first free one, which is looked for then alone.
+    fn place(&self, symbol: u32) -> Option<usize>
+        ensures { result ≡ option_or (position (is_for symbol) self.now.rows) (position is_none self.now.rows) }
+    {
+        match self.row_for(symbol) {
+            None => self.free_row(),
+            known => known,
+        }
+    }
+
     /// The value of a symbol, if it is listed.
     pub fn get(&self, symbol: u32) -> Option<V>
         ensures { result ≡ value_of self.now.rows symbol }
@@ -67,8 +78,7 @@ impl<V: Copy> List<V> {
         ensures after { Valuing self.old.rows symbol value result self.new.rows }
         ensures value { MatchResult result (λ _. Revalued self.old.rows symbol value self.new.rows) (λ _. self.new.rows ≡ self.old.rows) }
     {
-        let place = self.row_for(symbol).or(self.free_row());
-        let i = place.ok_or(BookCause::ListFull)?;
+        let i = self.place(symbol).ok_or(BookCause::ListFull)?;
         // The one row that changes is lent.
         self.rows[i].replace(Listed { symbol, value });
         Ok(())

@@ -100,7 +100,8 @@ impl PriceRule for Stock {
             .saturating_add(right)
     }
 
+    // Number by number: the derived `<` makes an `Ordering` first, and a queue asks this at each step.
     fn is_below(&self, a: Shortage, b: Shortage) -> bool {
-        a < b
+        a.missing < b.missing || (a.missing == b.missing && a.names < b.names)
     }
 }
