@@ -1,11 +1,14 @@
 -- Chains of nodes with one key: made node by node, and walked from the last node down.
-use Rattle.std.proofs.Common.{◌≡◌, ℕ, ◌+◌, ◌<◌, ◌≤◌, Bool, true, List, length, set, Option, Some, None, sym, ap, ◌∙◌, arith}
+use Rattle.std.proofs.Common.{◌≡◌, ℕ, ◌+◌, ◌<◌, ◌≤◌, Bool, true, List, length, set, get_or, replicate, Option, Some, None, sym, ap, ◌∙◌, subst, subst₂, arith, length-set}
 use native.Mathlib.Decide.{ℕ_discrete, dec_lt}
+use Rattle.std.proofs.Math.ListN.{get_or-map}
 use Rattle.std.proofs.lemmas.Grind.{get_or-set_at}
-use Rattle.std.proofs.lemmas.List.{get_or-set_other}
-use Rattle.pricing.specs.Nodes.{one_more}
+use Rattle.std.proofs.lemmas.List.{get_or-set_same, get_or-set_other, get_or_past, length-map, map-set}
+use Rattle.pricing.specs.declared.link.Link.{Link}
+use Rattle.pricing.specs.Nodes.{one_more, node_of, links, chosen_at, ChoicesIn}
 use Rattle.pricing.specs.Chains.{link_at, Chained, Linked}
 use Rattle.pricing.specs.Offers.{flag}
+use Rattle.pricing.proofs.Nodes.{same_all}
 
 -- ---- making the chains
 
@@ -43,6 +46,53 @@ linked_more i k key first next L is kin iin =
       same = grind (arith, get_or-set_at, get_or-set_other);
       between = grind (arith, get_or-set_at, get_or-set_other);
     }
+
+-- ---- the same of links
+
+abbrev pub unlinked : Link
+unlinked = record { 0 = 0 }
+
+pub link_is : (xs : List Link) (k : ℕ) → node_of (get_or xs k unlinked) ≡ link_at (links xs) k
+link_is xs k = sym (get_or-map node_of xs k unlinked)
+
+pub clear_all : (l : Link) (k : ℕ) → node_of l ≡ None → link_at (links (replicate 1024 l)) k ≡ None
+clear_all l k e =
+    subst (λ (a : Option ℕ). get_or (links (replicate 1024 l)) k a ≡ None) e
+    (get_or-map node_of (replicate 1024 l) k l ∙ ap node_of (same_all 1024 k l) ∙ e)
+
+pub set_link : (xs : List Link) (k i : ℕ) (l : Link) → node_of l ≡ Some i → links (set xs k l) ≡ set (links xs) k (Some i)
+set_link xs k i l e = map-set node_of xs k l ∙ ap (set (links xs) k) e
+
+choices_set : (n k i : ℕ) (ch : List (Option ℕ)) → ChoicesIn n ch → i < n → ChoicesIn n (set ch k (Some i))
+choices_set n k i ch old h m j e = go (ℕ_discrete m k) (dec_lt k (length ch))
+  where
+    go : Dec (m ≡ k) → Dec (k < length ch) → j < n
+    go (no q) b = old m j (sym (get_or-set_other ch k m (Some i) None q) ∙ e)
+    go (yes q) (yes b) =
+        let f : Some i ≡ Some j
+        = sym (ap (λ (a : ℕ). chosen_at (set ch k (Some i)) a) q ∙ get_or-set_same ch k (Some i) None b) ∙ e in
+        omega (arith, ap one_more f)
+    go (yes q) (no b) =
+        let f : None ≡ Some j = sym (get_or_past (set ch k (Some i)) m None (omega (arith, length-set ch k (Some i)))) ∙ e in
+        absurd (cc)
+
+-- one more choice, of the first n nodes
+pub choices_link : (n k i : ℕ) (ch : List Link) (l : Link) → ChoicesIn n (links ch) → node_of l ≡ Some i → i < n → ChoicesIn n (links (set ch k l))
+choices_link n k i ch l old e h = subst (ChoicesIn n) (sym (set_link ch k i l e)) (choices_set n k i (links ch) old h)
+
+pub clear_past : (next : List Link) (i j : ℕ) (v : Link) → i < j → link_at (links next) j ≡ None → link_at (links (set next i v)) j ≡ None
+clear_past next i j v h e =
+    ap (λ (xs : List (Option ℕ)). link_at xs j) (map-set node_of next i v)
+    ∙ get_or-set_other (links next) i j (node_of v) None (omega arith) ∙ e
+
+pub linked_next : (i k : ℕ) (key : ℕ → Option ℕ) (first next : List Link) (l v : Link) → Linked i key (links first) (links next) → key i ≡ Some k
+    → k < length first → i < length next → node_of l ≡ Some i → node_of v ≡ link_at (links first) k
+    → Linked (i + 1) key (links (set first k l)) (links (set next i v))
+linked_next i k key first next l v L is kin iin e f =
+    subst₂ (Linked (i + 1) key)
+    (sym (set_link first k i l e))
+    (sym (map-set node_of next i v ∙ ap (set (links next) i) f))
+    (linked_more i k key (links first) (links next) L is (omega (arith, length-map first node_of)) (omega (arith, length-map next node_of)))
 
 -- ---- walking a chain
 

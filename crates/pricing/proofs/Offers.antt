@@ -16,7 +16,7 @@ use Rattle.queue.specs.Queues.{slice, held, has_room, Ordered, Pushed, Same}
 use Rattle.theory.specs.Costs.{Rule}
 use Rattle.book.specs.declared.nodes.Nodes.{Nodes}
 use Rattle.pricing.specs.declared.settled.Settled.{Settled}
-use Rattle.pricing.specs.Nodes.{ready_at, cost_from}
+use Rattle.pricing.specs.Nodes.{links, ready_at, cost_from}
 use Rattle.pricing.specs.Offers.{flag, entry, Waits, Offered, Offers}
 
 -- ---- lists with one more in front
@@ -44,6 +44,16 @@ flag_low F F' i up e = go (flag F i) refl
     go : (v : Bool) → flag F i ≡ v → flag F i ≡ false
     go true t = absurd (both_ways (flag F' i) e (up t))
     go false t = t
+
+-- node after node: each so far that is ready has its flag, and the next one
+pub seen_more : (ready : ℕ → Bool) (F F' : List Bool) (i : ℕ) → ((j : ℕ) → flag F j ≡ true → flag F' j ≡ true)
+    → ((j : ℕ) → j < i → ready j ≡ true → flag F j ≡ true) → (ready i ≡ true → flag F' i ≡ true)
+    → (j : ℕ) → j < i + 1 → ready j ≡ true → flag F' j ≡ true
+seen_more ready F F' i up before here j h r = go (ℕ_discrete j i)
+  where
+    go : Dec (j ≡ i) → flag F' j ≡ true
+    go (yes e) = ap (flag F') e ∙ here (ap ready (sym e) ∙ r)
+    go (no n) = up j (before j (omega (arith, n)) r)
 
 -- ---- what is offered
 
@@ -148,11 +158,11 @@ module _ {C : Type 0} (below : C → C → Bool) (n : ℕ) (ready : ℕ → Bool
 module _ {C : Type 0} (rule : Rule C) (s : Settled C) where
   pub offers_none : (F : List Bool) (q : Queue C) → Offers rule s F F q q
   offers_none F q =
-      offered_none (length s.nodes.rows.now) (ready_at s.nodes.rows.now s.chosen) (cost_from rule s.nodes.rows.now s.costs.now) F q.count (held q)
+      offered_none (length s.nodes.rows.now) (ready_at s.nodes.rows.now (links s.chosen)) (cost_from rule s.nodes.rows.now s.costs.now) F q.count (held q)
 
   pub offers_then : (F F' F'' : List Bool) (q q' q'' : Queue C) → Offers rule s F F' q q' → Offers rule s F' F'' q' q'' → Offers rule s F F'' q q''
   offers_then F F' F'' q q' q'' A B =
-      offered_then (length s.nodes.rows.now) (ready_at s.nodes.rows.now s.chosen) (cost_from rule s.nodes.rows.now s.costs.now) F F' F''
+      offered_then (length s.nodes.rows.now) (ready_at s.nodes.rows.now (links s.chosen)) (cost_from rule s.nodes.rows.now s.costs.now) F F' F''
       q.count q'.count q''.count (held q) (held q') (held q'') A B
 
 -- the same nodes have as much room

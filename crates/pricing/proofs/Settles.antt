@@ -14,7 +14,7 @@ use Rattle.book.specs.Rows.{row, class, shape_of, bare}
 use Rattle.book.proofs.Tables.{node_lower}
 use Rattle.pricing.specs.declared.chain.Side.TheVariants.{Left, Right}
 use Rattle.pricing.specs.declared.settled.Settled.{Settled}
-use Rattle.pricing.specs.Nodes.{table, chosen_at, settled, ready_at, cost_from}
+use Rattle.pricing.specs.Nodes.{table, links, chosen_at, settled, ready_at, cost_from}
 use Rattle.pricing.specs.Chains.{key}
 use Rattle.pricing.specs.Offers.{Waits, Offered, Offers, flag}
 use Rattle.pricing.specs.Settling.{Chose, Settles}
@@ -26,7 +26,7 @@ use Rattle.pricing.proofs.Pops.{here, passed, settles}
 pub record Between {C : Type 0} (rule : Rule C) (N : Nodes) (bs : List C) (lent : ℕ) (s : Settled C) (F : List Bool) (q : Queue C) : Type 0 where
   pub nodes : s.nodes ≡ N
   pub settlers : List ℕ
-  pub due : Due rule (table N.rows.now) (class N.rows.now) settlers s.chosen s.costs.now F (held q)
+  pub due : Due rule (table N.rows.now) (class N.rows.now) settlers (links s.chosen) s.costs.now F (held q)
   pub full : Full (table N.rows.now) (class N.rows.now) settlers F
   pub later : (k : ℕ) (d : C) → length N.rows.now ≤ k → get_or s.costs.now k d ≡ get_or bs k d
   pub over : s.costs.ghost_name ≡ lent
@@ -78,21 +78,21 @@ module _ (N : Nodes) where
   module _ {C : Type 0} (rule : Rule C) where
     -- what is said of the nodes of s is said of N
     pub offers_on : (s : Settled C) (F F' : List Bool) (q q' : Queue C) → s.nodes ≡ N → Offers rule s F F' q q'
-        → Offered (length N.rows.now) (ready_at N.rows.now s.chosen) (cost_from rule N.rows.now s.costs.now) F F' q.count q'.count (held q) (held q')
+        → Offered (length N.rows.now) (ready_at N.rows.now (links s.chosen)) (cost_from rule N.rows.now s.costs.now) F F' q.count q'.count (held q) (held q')
     offers_on s F F' q q' e O =
-        subst (λ (M : Nodes). Offered (length M.rows.now) (ready_at M.rows.now s.chosen) (cost_from rule M.rows.now s.costs.now)
+        subst (λ (M : Nodes). Offered (length M.rows.now) (ready_at M.rows.now (links s.chosen)) (cost_from rule M.rows.now s.costs.now)
         F F' q.count q'.count (held q) (held q')) e O
 
-    -- every node was offered
-    pub begun : (s : Settled C) (F F' : List Bool) (q q' : Queue C) → s.nodes ≡ N → ((k : ℕ) → chosen_at s.chosen k ≡ None)
-        → ((i : ℕ) → flag F i ≡ false) → q.count ≡ 0 → Offers rule s F F' q q' → Sees s.nodes s.chosen (λ i. Unit {0}) F'
+    -- the nodes without parts were offered, and no other one is ready
+    pub begun : (s : Settled C) (F F' : List Bool) (q q' : Queue C) → s.nodes ≡ N → ((k : ℕ) → chosen_at (links s.chosen) k ≡ None)
+        → ((i : ℕ) → flag F i ≡ false) → q.count ≡ 0 → Offers rule s F F' q q' → Sees s.nodes (links s.chosen) (λ i. Unit {0}) F'
         → Between rule N s.costs.now s.costs.ghost_name s F' q'
     begun s F F' q q' e clear low z O seen =
         let xs = N.rows.now in
-        let S = start rule (table xs) (class xs) s.chosen s.costs.now F (λ k h. clear k) (λ i h. low i) in
-        let D : Due rule (table xs) (class xs) [] s.chosen s.costs.now F (held q)
-        = subst (λ (n : ℕ). Due rule (table xs) (class xs) [] s.chosen s.costs.now F (take n (slice q))) (sym z) S in
-        let sees : Sees N s.chosen (λ i. Unit {0}) F' = subst (λ (M : Nodes). Sees M s.chosen (λ i. Unit {0}) F') e seen in
+        let S = start rule (table xs) (class xs) (links s.chosen) s.costs.now F (λ k h. clear k) (λ i h. low i) in
+        let D : Due rule (table xs) (class xs) [] (links s.chosen) s.costs.now F (held q)
+        = subst (λ (n : ℕ). Due rule (table xs) (class xs) [] (links s.chosen) s.costs.now F (take n (slice q))) (sym z) S in
+        let sees : Sees N (links s.chosen) (λ i. Unit {0}) F' = subst (λ (M : Nodes). Sees M (links s.chosen) (λ i. Unit {0}) F') e seen in
         record {
           nodes = e;
           settlers = [];
@@ -104,7 +104,7 @@ module _ (N : Nodes) where
 
     module _ (bs : List C) (lent : ℕ) (s : Settled C) (F : List Bool) (q : Queue C) (B : Between rule N bs lent s F q) where
       -- nothing is left in the queue
-      pub ended : q.count ≤ length (slice q) → q.count ≡ 0 → Settles rule N.rows.now s.chosen bs s.costs.now
+      pub ended : q.count ≤ length (slice q) → q.count ≡ 0 → Settles rule N.rows.now (links s.chosen) bs s.costs.now
       ended fits z =
           let D = B.due in
           record {
@@ -123,41 +123,41 @@ module _ (N : Nodes) where
         node_in_settled = omega (arith, node_in, ap (λ (M : Nodes). length M.rows.now) B.nodes)
 
         -- the class of its node was settled before
-        pub passed_over : true ≡ settled s.chosen (class s.nodes.rows.now x.node) → Between rule N bs lent s F q'
+        pub passed_over : true ≡ settled (links s.chosen) (class s.nodes.rows.now x.node) → Between rule N bs lent s F q'
         passed_over e =
             record {
               nodes = B.nodes;
               settlers = B.settlers;
               due = passed parts_first within B.due x (held q') P.takes
-                  (ap (λ (M : Nodes). settled s.chosen (class M.rows.now x.node)) (sym B.nodes) ∙ sym e);
+                  (ap (λ (M : Nodes). settled (links s.chosen) (class M.rows.now x.node)) (sym B.nodes) ∙ sym e);
               full = B.full;
               later = B.later;
               over = B.over;
             }
 
         -- its node settles its class, and the nodes over that class are offered
-        pub taken_up : First rule.below x (held q) → false ≡ settled s.chosen (class s.nodes.rows.now x.node) → length N.rows.now ≤ length s.chosen
-            → (s' : Settled C) → Chose s.nodes.rows.now x s.chosen s'.chosen s.costs.now s'.costs.now → s'.nodes ≡ s.nodes
+        pub taken_up : First rule.below x (held q) → false ≡ settled (links s.chosen) (class s.nodes.rows.now x.node) → length N.rows.now ≤ length (links s.chosen)
+            → (s' : Settled C) → Chose s.nodes.rows.now x (links s.chosen) (links s'.chosen) s.costs.now s'.costs.now → s'.nodes ≡ s.nodes
             → s'.costs.ghost_name ≡ s.costs.ghost_name → (k : ℕ) → k ≡ class s.nodes.rows.now x.node
             → (F₁ F₂ : List Bool) (q₁ q₂ : Queue C) → Offers rule s' F F₁ q' q₁ → Offers rule s' F₁ F₂ q₁ q₂
-            → Sees s'.nodes s'.chosen (λ i. key Left N.rows.now i ≡ Some k) F₁ → Sees s'.nodes s'.chosen (λ i. key Right N.rows.now i ≡ Some k) F₂
+            → Sees s'.nodes (links s'.chosen) (λ i. key Left N.rows.now i ≡ Some k) F₁ → Sees s'.nodes (links s'.chosen) (λ i. key Right N.rows.now i ≡ Some k) F₂
             → Between rule N bs lent s' F₂ q₂
         taken_up first z long s' H n' l' k v F₁ F₂ q₁ q₂ O₁ O₂ left right =
             let xs = N.rows.now in
             let ms = B.settlers in
             let m = class xs x.node in
             let e : s'.nodes ≡ N = n' ∙ B.nodes in
-            let H' : Chose xs x s.chosen s'.chosen s.costs.now s'.costs.now
-            = subst (λ (M : Nodes). Chose M.rows.now x s.chosen s'.chosen s.costs.now s'.costs.now) B.nodes H in
-            let open_yet : settled s.chosen m ≡ false = sym (z ∙ ap (λ (M : Nodes). settled s.chosen (class M.rows.now x.node)) B.nodes) in
+            let H' : Chose xs x (links s.chosen) (links s'.chosen) s.costs.now s'.costs.now
+            = subst (λ (M : Nodes). Chose M.rows.now x (links s.chosen) (links s'.chosen) s.costs.now s'.costs.now) B.nodes H in
+            let open_yet : settled (links s.chosen) m ≡ false = sym (z ∙ ap (λ (M : Nodes). settled (links s.chosen) (class M.rows.now x.node)) B.nodes) in
             let is : Some m ≡ Some k = ap Some (sym (v ∙ ap (λ (M : Nodes). class M.rows.now x.node) B.nodes)) in
             let S = settles parts_first within B.due x (held q') P.takes B.full first open_yet (omega (arith, table_long))
             (omega (arith, table_long, s.room, ap (λ (M : Nodes). length M.rows.now) B.nodes)) in
-            let D : Due rule (table xs) (class xs) (x.node ∷ ms) s'.chosen s'.costs.now F (held q')
+            let D : Due rule (table xs) (class xs) (x.node ∷ ms) (links s'.chosen) s'.costs.now F (held q')
             = subst₂ (λ (l : List (Option ℕ)) (cs : List C). Due rule (table xs) (class xs) (x.node ∷ ms) l cs F (held q')) (sym H'.chosen) (sym H'.costs) S in
             let D' = offered parts_first within D (omega (arith, table_long)) (offers_on s' F F₁ q' q₁ e O₁) in
-            let on_left = subst (λ (M : Nodes). Sees M s'.chosen (λ i. key Left xs i ≡ Some k) F₁) e left in
-            let on_right = subst (λ (M : Nodes). Sees M s'.chosen (λ i. key Right xs i ≡ Some k) F₂) e right in
+            let on_left = subst (λ (M : Nodes). Sees M (links s'.chosen) (λ i. key Left xs i ≡ Some k) F₁) e left in
+            let on_right = subst (λ (M : Nodes). Sees M (links s'.chosen) (λ i. key Right xs i ≡ Some k) F₂) e right in
             record {
               nodes = e;
               settlers = x.node ∷ ms;

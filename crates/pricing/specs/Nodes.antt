@@ -10,12 +10,15 @@
 -- | settled     | whether a class is settled: it has a choice                                        |
 -- | ChoicesIn   | each choice is one of the first n nodes                                            |
 -- | one_more    | 1 more than a node, or 0 for none, as a row keeps its choice                       |
+-- | one_less    | what such a number is kept for                                                     |
+-- | node_of     | the node that a link names, if any                                                 |
+-- | links       | the nodes that links name                                                          |
 -- | ready_by    | a test holds of each part of a shape                                               |
 -- | ready_at    | the classes of a node's parts are settled                                          |
 -- | ReadsAt     | the value stands at that place                                                     |
 -- | CostIs      | the value is the cost of a node over the costs of its parts' classes               |
 -- | cost_from   | that cost                                                                          |
-use Rattle.std.specs.Prelude.{◌≡◌, ℕ, ◌+◌, ◌<◌, Bool, true, false, cond, List, [], map, get_or, Option, Some, None, is_some, slice_index, slice_index_or}
+use Rattle.std.specs.Prelude.{◌≡◌, ℕ, zero, suc, ◌+◌, ◌<◌, Bool, true, false, cond, List, [], map, get_or, Option, Some, None, is_some, slice_index, slice_index_or}
 use Rattle.theory.specs.Names.{Name}
 use Rattle.theory.specs.Tables.{Shape, atom, unary, binary, Table as Shapes, shape_at}
 use Rattle.theory.specs.Costs.{Rule, cost_over}
@@ -24,6 +27,7 @@ use Rattle.book.specs.declared.row.Row.{Row}
 use Rattle.book.specs.declared.id.Parts.{Parts}
 use Rattle.book.specs.declared.id.Parts.TheVariants.{Zero, One, Two}
 use Rattle.book.specs.Rows.{class, shape_of, bare}
+use Rattle.pricing.specs.declared.link.Link.{Link}
 
 abbrev pub table : List Row → Shapes
 table xs = map (λ (r : Row). shape_of bare r.node) xs
@@ -57,6 +61,16 @@ ChoicesIn n ch = (k j : ℕ) → chosen_at ch k ≡ Some j → j < n
 abbrev pub one_more : Option ℕ → ℕ
 one_more None = 0
 one_more (Some j) = j + 1
+
+abbrev pub one_less : ℕ → Option ℕ
+one_less zero = None
+one_less (suc j) = Some j
+
+abbrev pub node_of : Link → Option ℕ
+node_of l = one_less l.0
+
+abbrev pub links : List Link → List (Option ℕ)
+links xs = map node_of xs
 
 abbrev pub ready_by : (ℕ → Bool) → Shape → Bool
 ready_by f (atom x) = true

@@ -15,7 +15,7 @@ use Rattle.queue.specs.declared.Entry.{Entry}
 use Rattle.queue.specs.declared.Queue.{Queue}
 use Rattle.queue.specs.Queues.{slice, held, Ordered}
 use Rattle.pricing.specs.declared.settled.Settled.{Settled}
-use Rattle.pricing.specs.Nodes.{ready_at, cost_from}
+use Rattle.pricing.specs.Nodes.{links, ready_at, cost_from}
 
 abbrev pub flag : List Bool → ℕ → Bool
 flag F i = slice_index_or F i false
@@ -40,5 +40,5 @@ pub record Offered {C : Type 0} (n : ℕ) (ready : ℕ → Bool) (cost : ℕ →
 
 abbrev pub Offers : {C : Type 0} → Rule C → Settled C → List Bool → List Bool → Queue C → Queue C → Type 0
 Offers rule s F F' q q' =
-    Offered (length s.nodes.rows.now) (ready_at s.nodes.rows.now s.chosen) (cost_from rule s.nodes.rows.now s.costs.now) F F' q.count q'.count (held q)
+    Offered (length s.nodes.rows.now) (ready_at s.nodes.rows.now (links s.chosen)) (cost_from rule s.nodes.rows.now s.costs.now) F F' q.count q'.count (held q)
     (held q')

@@ -4,6 +4,7 @@
 // The arrays of this crate have 1024 rows: the most nodes that a book has, as the layout of its rows promises.
 mod chain;
 pub mod cheapest;
+mod link;
 mod node;
 mod settle;
 mod settled;

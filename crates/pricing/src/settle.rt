@@ -1,9 +1,10 @@
 // Settling the classes in stages.
 ghost use Rattle.std.specs.Prelude.{◌≡◌, ℕ, ◌≤◌, length};
-ghost use Rattle.pricing.specs.Nodes.{bare_rule, chosen_at, ChoicesIn};
+ghost use Rattle.pricing.specs.Nodes.{links, bare_rule, chosen_at, ChoicesIn};
 ghost use Rattle.pricing.specs.Settling.{Settles};
 
 use crate::chain::{Chains, Side};
+use crate::link::Link;
 use crate::settled::Settled;
 use crate::waiting::Waiting;
 use book::nodes::Nodes;
@@ -16,18 +17,20 @@ fn stages<R: PriceRule>(
     rule: &R,
     waiting: &mut [Entry<R::Cost>],
 )
-    requires clear { (k : ℕ) → chosen_at settled.old.chosen k ≡ None }
+    requires clear { (k : ℕ) → chosen_at (links settled.old.chosen) k ≡ None }
     requires wide { length settled.old.chosen ≡ 1024 }
     requires room { length settled.old.nodes.rows.now ≤ length waiting.old }
     ensures lent { settled.new.costs.ghost_name ≡ settled.old.costs.ghost_name }
-    ensures settles { Settles (bare_rule R.below R.alone R.one R.two rule.now) settled.old.nodes.rows.now settled.new.chosen settled.old.costs.now settled.new.costs.now }
+    ensures settles { Settles (bare_rule R.below R.alone R.one R.two rule.now) settled.old.nodes.rows.now (links settled.new.chosen) settled.old.costs.now settled.new.costs.now }
     ensures nodes { settled.new.nodes ≡ settled.old.nodes }
 {
     let nodes = settled.nodes;
-    let left = Chains::of(nodes, Side::Left);
-    let right = Chains::of(nodes, Side::Right);
+    let mut left = Chains::none();
+    left.link(nodes, Side::Left);
+    let mut right = Chains::none();
+    right.link(nodes, Side::Right);
     let mut ready: Waiting<'_, R> = Waiting::none(nodes, waiting);
-    ready.offer_all(rule, settled);
+    ready.offer_leaves(rule, settled);
     while let Some(e) = ready.pop(rule) {
         if settled.is_settled(e.node) {
             continue;
@@ -44,10 +47,10 @@ pub(crate) fn settle<R: PriceRule>(
     rule: &R,
     costs: &mut [R::Cost],
     waiting: &mut [Entry<R::Cost>],
-) -> [Option<u16>; 1024]
+) -> [Link; 1024]
     requires { (length nodes.rows.now ≤ length costs.old) × (length nodes.rows.now ≤ length waiting.old) }
-    ensures settles { Settles (bare_rule R.below R.alone R.one R.two rule.now) nodes.entry.rows.now result costs.old costs.new }
-    ensures choices { ChoicesIn (length nodes.entry.rows.now) result }
+    ensures settles { Settles (bare_rule R.below R.alone R.one R.two rule.now) nodes.entry.rows.now (links result) costs.old costs.new }
+    ensures choices { ChoicesIn (length nodes.entry.rows.now) (links result) }
 {
     let mut settled = Settled::none(nodes, costs);
     stages(&mut settled, rule, waiting);

@@ -1,9 +1,10 @@
 // The classes that are settled so far, and what they say of the nodes.
 ghost use Rattle.std.specs.Prelude.{◌≡◌, ℕ, ◌<◌, ◌≤◌, length};
 ghost use Rattle.book.specs.Rows.{class};
-ghost use Rattle.pricing.specs.Nodes.{chosen_at, settled, ready_at, bare_rule, CostIs, ReadsAt, ChoicesIn};
+ghost use Rattle.pricing.specs.Nodes.{links, chosen_at, settled, ready_at, bare_rule, CostIs, ReadsAt, ChoicesIn};
 ghost use Rattle.pricing.specs.Settling.{Chose};
 
+use crate::link::Link;
 use crate::node::{class_of, parts_of};
 use book::id::Parts;
 use book::nodes::Nodes;
@@ -16,9 +17,9 @@ use queue::Entry;
 pub(crate) struct Settled<'a, C> {
     pub nodes: Nodes<'a>,
     pub costs: &'a mut [C],
-    pub chosen: [Option<u16>; 1024],
+    pub chosen: [Link; 1024],
     ghost room: { length nodes.rows.now ≤ length costs.now },
-    ghost choices: { ChoicesIn (length nodes.rows.now) chosen },
+    ghost choices: { ChoicesIn (length nodes.rows.now) (links chosen) },
 }
 
 impl<'a, C: Copy + Drop> Settled<'a, C> {
@@ -26,7 +27,7 @@ impl<'a, C: Copy + Drop> Settled<'a, C> {
     pub(crate) fn none(nodes: Nodes<'a>, costs: &'a mut [C]) -> Self
         requires { length nodes.rows.now ≤ length costs.old }
         ensures nodes { result.nodes ≡ nodes.entry }
-        ensures clear { (k : ℕ) → chosen_at result.chosen k ≡ None }
+        ensures clear { (k : ℕ) → chosen_at (links result.chosen) k ≡ None }
         ensures wide { length result.chosen ≡ 1024 }
         ensures costs { result.costs.now ≡ costs.old }
         ensures lent { result.costs.ghost_name ≡ costs.entry.ghost_name }
@@ -34,7 +35,7 @@ impl<'a, C: Copy + Drop> Settled<'a, C> {
         Settled {
             nodes,
             costs,
-            chosen: [None; 1024],
+            chosen: [Link::none(); 1024],
         }
     }
 }
@@ -43,15 +44,15 @@ impl<C: Copy + Drop> Settled<'_, C> {
     // whether the class of the node i is settled
     pub(crate) fn is_settled(&self, i: usize) -> bool
         requires { i < length self.now.nodes.rows.now }
-        ensures { result ≡ settled self.now.chosen (class self.now.nodes.rows.now i) }
+        ensures { result ≡ settled (links self.now.chosen) (class self.now.nodes.rows.now i) }
     {
-        self.chosen[class_of(self.nodes, i)].is_some()
+        self.chosen[class_of(self.nodes, i)].node().is_some()
     }
 
     // whether the classes of the node's parts are settled
     pub(crate) fn is_ready(&self, i: usize) -> bool
         requires { i < length self.now.nodes.rows.now }
-        ensures { result ≡ ready_at self.now.nodes.rows.now self.now.chosen i }
+        ensures { result ≡ ready_at self.now.nodes.rows.now (links self.now.chosen) i }
     {
         match parts_of(self.nodes, i) {
             Parts::Zero => true,
@@ -86,12 +87,12 @@ impl<C: Copy + Drop> Settled<'_, C> {
         requires { e.node < length self.old.nodes.rows.now }
         ensures value { result ≡ class self.old.nodes.rows.now e.node }
         ensures within { result ≤ e.node }
-        ensures after { Chose self.old.nodes.rows.now e self.old.chosen self.new.chosen self.old.costs.now self.new.costs.now }
+        ensures after { Chose self.old.nodes.rows.now e (links self.old.chosen) (links self.new.chosen) self.old.costs.now self.new.costs.now }
         ensures nodes { self.new.nodes ≡ self.old.nodes }
         ensures lent { self.new.costs.ghost_name ≡ self.old.costs.ghost_name }
     {
         let k = class_of(self.nodes, e.node);
-        self.chosen[k] = Some(e.node as u16);
+        self.chosen[k] = Link::to(e.node);
         self.costs[k] = e.cost;
         k
     }

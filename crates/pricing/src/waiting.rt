@@ -1,12 +1,14 @@
 // The nodes that wait to be chosen: each is put into the queue once, when its parts' classes are settled.
 ghost use Rattle.std.specs.Prelude.{◌≡◌, ℕ, ◌<◌, ◌≤◌, true, false, length, MatchOption, Option};
 ghost use Rattle.queue.specs.Queues.{held, First, Same, Popped};
-ghost use Rattle.pricing.specs.Nodes.{ready_at, bare_rule};
+ghost use Rattle.pricing.specs.Nodes.{links, chosen_at, ready_at, bare_rule};
 ghost use Rattle.pricing.specs.Chains.{Chained, Linked};
 ghost use Rattle.pricing.specs.Offers.{Waits, Offers, flag};
 
 use crate::chain::Chains;
+use crate::node::parts_of;
 use crate::settled::Settled;
+use book::id::Parts;
 use book::nodes::Nodes;
 use price::rule::PriceRule;
 use queue::{Entry, Queue};
@@ -46,7 +48,7 @@ impl<R: PriceRule> Waiting<'_, R> {
         requires here { i < length settled.now.nodes.rows.now }
         ensures nodes { self.new.nodes ≡ self.old.nodes }
         ensures offered { Offers (bare_rule R.below R.alone R.one R.two rule.now) settled.now self.old.queued self.new.queued self.old.queue self.new.queue }
-        ensures seen { ready_at settled.now.nodes.rows.now settled.now.chosen i ≡ true → flag self.new.queued i ≡ true }
+        ensures seen { ready_at settled.now.nodes.rows.now (links settled.now.chosen) i ≡ true → flag self.new.queued i ≡ true }
     {
         if self.queued[i] || !settled.is_ready(i) {
             return;
@@ -66,16 +68,19 @@ impl<R: PriceRule> Waiting<'_, R> {
         self.queue.pop(rule)
     }
 
-    // offers every node
-    pub(crate) fn offer_all(&mut self, rule: &R, settled: &Settled<'_, R::Cost>)
-        requires { self.old.nodes ≡ settled.now.nodes }
+    // offers each node without parts; while nothing is settled no other one is ready
+    pub(crate) fn offer_leaves(&mut self, rule: &R, settled: &Settled<'_, R::Cost>)
+        requires same { self.old.nodes ≡ settled.now.nodes }
+        requires clear { (k : ℕ) → chosen_at (links settled.now.chosen) k ≡ None }
         ensures nodes { self.new.nodes ≡ self.old.nodes }
         ensures offered { Offers (bare_rule R.below R.alone R.one R.two rule.now) settled.now self.old.queued self.new.queued self.old.queue self.new.queue }
-        ensures seen { (i : ℕ) → i < length settled.now.nodes.rows.now → ready_at settled.now.nodes.rows.now settled.now.chosen i ≡ true → flag self.new.queued i ≡ true }
+        ensures seen { (i : ℕ) → i < length settled.now.nodes.rows.now → ready_at settled.now.nodes.rows.now (links settled.now.chosen) i ≡ true → flag self.new.queued i ≡ true }
     {
         // by number, by which a node goes
         for i in 0..settled.nodes.rows.len() {
-            self.offer(rule, settled, i);
+            if let Parts::Zero = parts_of(settled.nodes, i) {
+                self.offer(rule, settled, i);
+            }
         }
     }
 
@@ -88,17 +93,17 @@ impl<R: PriceRule> Waiting<'_, R> {
         k: usize,
     )
         requires same { self.old.nodes ≡ settled.now.nodes }
-        requires chained { Chained (length settled.now.nodes.rows.now) chains.now.first chains.now.next }
+        requires chained { Chained (length settled.now.nodes.rows.now) (links chains.now.first) (links chains.now.next) }
         requires class { k < 1024 }
         ensures nodes { self.new.nodes ≡ self.old.nodes }
         ensures offered { Offers (bare_rule R.below R.alone R.one R.two rule.now) settled.now self.old.queued self.new.queued self.old.queue self.new.queue }
-        ensures seen { (by : ℕ → Option ℕ) → Linked (length settled.now.nodes.rows.now) by chains.now.first chains.now.next → (i : ℕ) → i < length settled.now.nodes.rows.now → by i ≡ Some k → ready_at settled.now.nodes.rows.now settled.now.chosen i ≡ true → flag self.new.queued i ≡ true }
+        ensures seen { (by : ℕ → Option ℕ) → Linked (length settled.now.nodes.rows.now) by (links chains.now.first) (links chains.now.next) → (i : ℕ) → i < length settled.now.nodes.rows.now → by i ≡ Some k → ready_at settled.now.nodes.rows.now (links settled.now.chosen) i ≡ true → flag self.new.queued i ≡ true }
     {
         // by hand: for the closure of `successors` it would have to be said that each link lies in the array, and that they end
-        let mut at = chains.first[k];
+        let mut at = chains.first[k].node();
         while let Some(i) = at {
-            self.offer(rule, settled, i as usize);
-            at = chains.next[i as usize];
+            self.offer(rule, settled, i);
+            at = chains.next[i].node();
         }
     }
 }

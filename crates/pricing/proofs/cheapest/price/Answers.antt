@@ -1,5 +1,5 @@
 -- A table is too short, or the classes are settled and the choices stored.
-use Rattle.std.proofs.Common.{◌≡◌, ℕ, List, length, Err, sym, ap, ◌∙◌, subst, arith, rules}
+use Rattle.std.proofs.Common.{◌≡◌, List, length, Err, sym, ap, ◌∙◌, subst, arith, rules}
 use Rattle.text.specs.declared.cause.Layer.TheVariants.{Book}
 use Rattle.theory.specs.Costs.{cheaper_by}
 use Rattle.theory.specs.Books.{symbol_of, equations_in}
@@ -12,7 +12,7 @@ use Rattle.book.specs.Held.{contents, Kept}
 use Rattle.book.proofs.Whole.{sound_of}
 use Rattle.book.proofs.Booked.{laid_still}
 use Rattle.book.proofs.Front.{front_length}
-use Rattle.pricing.specs.Nodes.{bare_rule, ChoicesIn}
+use Rattle.pricing.specs.Nodes.{bare_rule, links}
 use Rattle.pricing.specs.Settling.{Settles}
 use Rattle.pricing.specs.Told.{book_rule, CostsTold}
 use Rattle.pricing.proofs.Prices.{too_short, pricing, told, cheapest, kept, relaid}
@@ -44,7 +44,6 @@ store-requires g c =
     record {
       holds = c.args.book.now.holds;
       room = omega (arith, c.in_ok-check.ensures.long.0, c.settle-chosen.auto.costs);
-      choices = subst (λ (n : ℕ). ChoicesIn n c.settle-chosen.result) z c.settle-chosen.ensures.choices;
     }
 
 pub invariant_of-book : goal.invariant_of-book
@@ -56,7 +55,7 @@ invariant_of-book g c =
     let K = sound_of s c.args.book.now.holds in
     let lawful = (costed P.fits P.below P.alone P.one P.two r (symbol_of (state_of s).names) m.fitting m.order m.growth m.weight).laws in
     let ys = c.store.new.table.rows.now in
-    let ch = c.settle-chosen.result in
+    let ch = links c.settle-chosen.result in
     let bs = c.args.costs.now in
     let cs = c.settle-chosen.new.costs in
     let S = subst (λ (xs : List Row). Settles (bare_rule P.below P.alone P.one P.two r) xs ch bs cs) c.nodes.ensures c.settle-chosen.ensures.settles in
@@ -75,7 +74,7 @@ returns g c =
     let rule = book_rule P.below P.alone P.one P.two r (state_of s) in
     let lawful = (costed P.fits P.below P.alone P.one P.two r (symbol_of (state_of s).names) m.fitting m.order m.growth m.weight).laws in
     let ys = c.store.new.table.rows.now in
-    let ch = c.settle-chosen.result in
+    let ch = links c.settle-chosen.result in
     let bs = c.args.costs.now in
     let cs = c.settle-chosen.new.costs in
     let ds = c.store.new.costs in

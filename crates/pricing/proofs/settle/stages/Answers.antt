@@ -1,8 +1,9 @@
 -- The loop over the queue.
 use Rattle.std.proofs.Common.{◌≡◌, List, Bool, Option, ℕ, length, ap, ◌∙◌, sym, refl, subst, arith, length-set}
+use Rattle.std.proofs.lemmas.List.{length-map}
 use Rattle.book.specs.declared.nodes.Nodes.{Nodes}
 use Rattle.pricing.specs.declared.chain.Side.TheVariants.{Left, Right}
-use Rattle.pricing.specs.Nodes.{bare_rule}
+use Rattle.pricing.specs.Nodes.{bare_rule, node_of, links}
 use Rattle.pricing.specs.Chains.{key, Linked}
 use Rattle.pricing.proofs.Settles.{Between, begun, node_in_settled, passed_over, taken_up, ended}
 use Rattle.pricing.proofs.settle.stages.Goals as goal
@@ -14,8 +15,8 @@ loop-e-init g c =
     let s = c.args.settled.now in
     let w = c.none-ready.result in
     let v = c.none-ready.ensures in
-    let w' = c.offer_all.new.self in
-    let o = c.offer_all.ensures in
+    let w' = c.offer_leaves.new.self in
+    let o = c.offer_leaves.ensures in
     record {
       lent = refl;
       between = begun c.args.settled.now.nodes rule s w.queued w'.queued w.queue w'.queue refl c.requires.clear v.low v.empty o.offered
@@ -79,17 +80,17 @@ loop-e-preserved g c =
     let e₁ = c.offer_chain.ensures in
     let e₂ = c.offer_chain-in-Some.ensures in
     let e : s'.nodes ≡ N = u.nodes ∙ I.between.nodes in
-    let left = subst (λ (M : Nodes). Linked (length M.rows.now) (key Left xs) c.of-left.result.first c.of-left.result.next) (sym e) c.of-left.ensures in
-    let right = subst (λ (M : Nodes). Linked (length M.rows.now) (key Right xs) c.of-right.result.first c.of-right.result.next) (sym e) c.of-right.ensures in
+    let left = subst (λ (M : Nodes). Linked (length M.rows.now) (key Left xs) (links c.link.new.self.first) (links c.link.new.self.next)) (sym e) c.link.ensures in
+    let right = subst (λ (M : Nodes). Linked (length M.rows.now) (key Right xs) (links c.link-2.new.self.first) (links c.link-2.new.self.next)) (sym e) c.link-2.ensures in
     let B : Between rule N c.args.settled.now.costs.now lent s w'.queued w.queue
     = subst (λ (F : List Bool). Between rule N c.args.settled.now.costs.now lent s F w.queue) (sym o.queued) I.between in
     record {
       lent = u.lent ∙ I.lent;
       between = taken_up N rule c.args.settled.now.costs.now lent s w'.queued w.queue B c.in-Some.e w'.queue o.after o.first c.if-is_settled.ensures
-          (omega (arith, few, I.wide)) s' u.after u.nodes u.lent c.choose-k.result u.value w₁.queued w₂.queued w₁.queue w₂.queue e₁.offered e₂.offered
+          (omega (arith, few, I.wide, length-map s.chosen node_of)) s' u.after u.nodes u.lent c.choose-k.result u.value w₁.queued w₂.queued w₁.queue w₂.queue e₁.offered e₂.offered
           (e₁.seen (key Left xs) left) (e₂.seen (key Right xs) right);
       same = e₂.nodes ∙ e₁.nodes ∙ o.nodes ∙ I.same ∙ sym u.nodes;
-      wide = omega (arith, ap length u.after.chosen, length-set {A = Option ℕ}, I.wide);
+      wide = omega (arith, ap length u.after.chosen, length-set {A = Option ℕ}, length-map s.chosen node_of, length-map s'.chosen node_of, I.wide);
     }
 
 pub returns : goal.returns
