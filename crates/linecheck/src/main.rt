@@ -30,7 +30,9 @@ struct Session<'a> {
 }
 
 /// The bytes of a file, as many as there is room for; none where it cannot be read.
-fn read_text<'a>(rt: &HostRuntime, path: &str, room: &'a mut [u8]) -> &'a [u8] {
+fn read_text<'a>(rt: &HostRuntime, path: &str, room: &'a mut [u8]) -> &'a [u8]
+    ensures { length result.now ≤ length room.old }
+{
     let Ok(mut file) = fs::open(rt, path) else {
         return &[];
     };

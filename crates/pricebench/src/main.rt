@@ -1,6 +1,7 @@
 // Builds a full book by calls, in a shape, and prices it, so that the instructions can be counted. It prints how many calls were granted,
-// and what pricing answered. The arguments are the number of rows (1,024 at most and else 1,024), the shape (`apart`, `towers`,
-// `falling`, `chain` or `tree`) and the rule (`bill`, `stock`, `steps`, or else none, and the book is not priced).
+// and what pricing answered. The arguments are the number of rows (128, 256, 512, or else 1,024), the shape (`towers`, `falling`, `chain`,
+// `tree`, or else `apart`) and the rule (`bill`, `stock`, `steps`, or else none, and the book is not priced); others count for nothing, and of
+// two of a kind the last counts.
 #![tactic(auto)]
 
 ghost use Rattle.std.specs.Prelude.{◌*◌, ◌^◌, ◌<◌};
@@ -74,15 +75,19 @@ fn main(rt: HostRuntime) -> io::Result<()> {
     let mut size = table.len();
     let mut shape = Shape::Apart;
     let mut rule = None;
-    // as in `bookbench`, and the rule besides: a shared loop would need a case for what one of the two does not know
+    // as in `bookbench`, and two shapes and the rule besides: a shared loop would need a case for what one of the two does not know
     for word in env::args(&rt)? {
-        let word = word.as_str();
-        if let Ok(rows) = word.parse::<usize>() {
-            size = rows;
-        } else if let Ok(named) = word.parse::<Shape>() {
-            shape = named;
-        } else if let Some(named) = Rule::of(word.as_bytes()) {
-            rule = Some(named);
+        match word.as_str() {
+            "128" => size = 128,
+            "256" => size = 256,
+            "512" => size = 512,
+            // what is meant where no shape is named
+            "apart" => {}
+            word => if let Ok(named) = word.parse::<Shape>() {
+                shape = named;
+            } else if let Some(named) = Rule::of(word.as_bytes()) {
+                rule = Some(named);
+            },
         }
     }
     let size = size.min(table.len());
