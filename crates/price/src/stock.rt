@@ -100,8 +100,7 @@ impl PriceRule for Stock {
             .saturating_add(right)
     }
 
-    // Number by number: the derived `<` makes an `Ordering` first, and a queue asks this at each step.
     fn is_below(&self, a: Shortage, b: Shortage) -> bool {
-        a.missing < b.missing || (a.missing == b.missing && a.names < b.names)
+        a < b
     }
 }
